@@ -1,0 +1,6 @@
+mod Decimals
+mod Splits
+mod Signs
+mod Rows
+mod Joints
+mod Letters

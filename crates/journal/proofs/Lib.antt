@@ -1,0 +1,4 @@
+mod Count
+mod Order
+mod Searches
+mod Writes

@@ -1,0 +1,1 @@
+// What a line is and does, for every store and every payload.

@@ -1,0 +1,8 @@
+use protocol::Message;
+use protocol::POST_LIMIT;
+use table::Table;
+
+#[derive(Drop)]
+pub struct Post {
+    pub messages: Table<Message, POST_LIMIT>,
+}

@@ -1,0 +1,2 @@
+pub mod TallyMeans
+pub mod VoteMeans

@@ -1,0 +1,37 @@
+// What every layer speaks of: sites and ranges, messages, answers and faults, the bounds of the protocol, and its formulas.
+mod answers;
+mod calls;
+mod faults;
+mod formulas;
+mod limits;
+mod messages;
+mod sites;
+
+pub use answers::Delivery;
+pub use answers::Stage;
+pub use calls::Answer;
+pub use calls::Call;
+pub use faults::CellFault;
+pub use faults::Fault;
+pub use faults::Layer;
+pub use formulas::cast_vote;
+pub use formulas::tally;
+pub use formulas::worked_ranges_hold;
+pub use limits::ITEM_LIMIT;
+pub use limits::LAST_TICK;
+pub use limits::LIVE_LIMIT;
+pub use limits::OPENED_LIMIT;
+pub use limits::POST_LIMIT;
+pub use limits::ROW_LIMIT;
+pub use limits::WIDEST_SPREAD;
+pub use messages::Body;
+pub use messages::Decision;
+pub use messages::Message;
+pub use messages::Order;
+pub use messages::Range;
+pub use messages::Report;
+pub use messages::Vote;
+pub use sites::PerSite;
+pub use sites::Site;
+pub use sites::count_marked;
+pub use sites::lacking_marks;

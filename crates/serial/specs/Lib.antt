@@ -1,0 +1,4 @@
+pub mod Observer
+pub mod Order
+pub mod Runs
+pub mod Laws

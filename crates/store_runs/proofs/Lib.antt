@@ -1,0 +1,4 @@
+mod Accepting
+mod Counting
+mod Observing
+mod Running

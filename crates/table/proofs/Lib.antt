@@ -1,0 +1,2 @@
+mod Removal
+mod Places
