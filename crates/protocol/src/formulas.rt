@@ -72,8 +72,6 @@ pub fn tally(votes: &PerSite<Option<Range>>) -> Decision
 }
 
 // The worked ranges are what the formulas give.
-pub fn worked_ranges_hold() -> u8
+pub fn worked_ranges_hold()
     ensures { λ _. ⌜ AllHold ⌝ }
-{
-    0
-}
+{}

@@ -3,36 +3,26 @@ ghost use Rattle.serial.specs.Runs.{AlwaysSerial};
 ghost use Rattle.serial.specs.Laws.{AlwaysOrdered, AlwaysBounded, AlwaysVoted, RefusalsKeep};
 
 // What was committed is as if each transaction had run alone, in the order of the commit times.
-pub fn always_serial<P>() -> u8
+pub fn always_serial<P>()
     ensures { λ _. ⌜ AlwaysSerial P ⌝ }
-{
-    0
-}
+{}
 
 // There is such an order.
-pub fn always_ordered<P>() -> u8
+pub fn always_ordered<P>()
     ensures { λ _. ⌜ AlwaysOrdered P ⌝ }
-{
-    0
-}
+{}
 
 // No more transactions are live, and no more messages wait, than the limits allow.
-pub fn always_bounded<P>() -> u8
+pub fn always_bounded<P>()
     ensures { λ _. ⌜ AlwaysBounded P ⌝ }
-{
-    0
-}
+{}
 
 // A commit time lies in the vote of each cell that the transaction joined.
-pub fn always_voted<P>() -> u8
+pub fn always_voted<P>()
     ensures { λ _. ⌜ AlwaysVoted P ⌝ }
-{
-    0
-}
+{}
 
 // A refused call changes nothing.
-pub fn refusals_keep<P>() -> u8
+pub fn refusals_keep<P>()
     ensures { λ _. ⌜ RefusalsKeep P ⌝ }
-{
-    0
-}
+{}
