@@ -1,7 +1,6 @@
 // Reads a script from standard input, and prints a line for each of its lines.
-ghost use Prim.Native.Nat.{_≤_};
-ghost use lib.ListN.{length};
 use script::Session;
+use script::line_end;
 use script::too_long;
 use std::io;
 use std::io::Read;
@@ -9,19 +8,6 @@ use std::io::Write;
 
 // A script has at most so many bytes; a longer one is not run.
 const LONGEST_SCRIPT: usize = 65_536;
-
-// Where the line from `start` on ends: at its newline, or with the script.
-fn line_end(script: &[u8], start: usize) -> usize
-    requires { ⌜ start ≤ length (now script) ⌝ }
-    ensures { λ r. ⌜ start ≤ r ⌝ ∗ ⌜ r ≤ length (now (script .entry)) ⌝ }
-{
-    for i in start..script.len() {
-        if script[i] == b'\n' {
-            return i;
-        }
-    }
-    script.len()
-}
 
 fn main(rt: LibcRuntime) -> io::Result<()> {
     let heap = rt.alloc();

@@ -1,7 +1,6 @@
 // Runs every script under data/ and compares what is printed with what is expected.
-ghost use Prim.Native.Nat.{_≤_};
-ghost use lib.ListN.{length};
 use script::Session;
+use script::line_end;
 use script::too_long;
 use std::alloc::AllocError;
 use std::alloc::Global;
@@ -9,19 +8,6 @@ use std::fs;
 use std::io;
 
 const LONGEST_SCRIPT: usize = 65_536;
-
-// Where the line from `start` on ends: at its newline, or with the script.
-fn line_end(script: &[u8], start: usize) -> usize
-    requires { ⌜ start ≤ length (now script) ⌝ }
-    ensures { λ r. ⌜ start ≤ r ⌝ ∗ ⌜ r ≤ length (now (script .entry)) ⌝ }
-{
-    for i in start..script.len() {
-        if script[i] == b'\n' {
-            return i;
-        }
-    }
-    script.len()
-}
 
 // What is printed for a whole script.
 fn printed_for(heap: Global, script: &[u8]) -> Result<Vec<u8>, AllocError> {
