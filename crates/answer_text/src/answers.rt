@@ -68,7 +68,7 @@ fn put_delivery(out: &mut Vec<u8>, delivery: Delivery)
 // What a read gave.
 fn put_read<P: PayloadPrint>(out: &mut Vec<u8>, read: &Option<P>)
     requires { Room 20 out.old }
-    ensures { Appended 20 out.old out.new (read_text shown read.now) }
+    ensures { Appended 20 out.old out.new (read_text P.shown read.now) }
 {
     match read {
         Some(payload) => {
@@ -80,7 +80,7 @@ fn put_read<P: PayloadPrint>(out: &mut Vec<u8>, read: &Option<P>)
 
 fn put_answer<P: PayloadPrint>(out: &mut Vec<u8>, answer: &Answer<P>)
     requires { Room 51 out.old }
-    ensures { Appended 51 out.old out.new (text_of shown answer.now) }
+    ensures { Appended 51 out.old out.new (text_of P.shown answer.now) }
 {
     match answer {
         Answer::Accepted => put(out, b"ok"),
@@ -106,7 +106,7 @@ fn put_answer<P: PayloadPrint>(out: &mut Vec<u8>, answer: &Answer<P>)
 
 fn put_line<P: PayloadPrint>(out: &mut Vec<u8>, answer: &Answer<P>)
     requires { Room 52 out.old }
-    ensures { Appended 52 out.old out.new (text_of shown answer.now ++ (10 ∷ [])) }
+    ensures { Appended 52 out.old out.new (text_of P.shown answer.now ++ (10 ∷ [])) }
 {
     put_answer(out, answer);
     put(out, b"\n");
@@ -114,7 +114,7 @@ fn put_line<P: PayloadPrint>(out: &mut Vec<u8>, answer: &Answer<P>)
 
 // Appends the line of an answer, its text and a newline, where 64 bytes are reserved for it; else says false and changes nothing.
 pub fn append_answer<P: PayloadPrint>(out: &mut Vec<u8>, answer: &Answer<P>) -> bool
-    ensures { Printed 64 out.old out.new (text_of shown answer.now ++ (10 ∷ [])) result }
+    ensures { Printed 64 out.old out.new (text_of P.shown answer.now ++ (10 ∷ [])) result }
 {
     if !has_room(out, LINE_ROOM) {
         return false;

@@ -1,4 +1,6 @@
 // The printed text of answers, appended to a buffer whose memory was taken before.
+#![tactic(auto)]
+
 mod answers;
 mod buffers;
 mod faults;

@@ -77,7 +77,7 @@ fn poses_are_printed_in_degrees(rt: HostRuntime) -> Result<(), Fail> {
         joint3: 0x7f80_0000,
     };
     assert!(rt; append_answer(&mut out, &Answer::Payload(Some(lost))));
-    assert!(rt; out.as_slice() == b"ok 360 -360 0 ?\nok ? 1 ? ?\n");
+    assert!(rt; out.as_slice() == b"ok 360 -360 0 ?\nok ? 1 ? ?\n".as_slice());
     Ok(())
 }
 
@@ -86,7 +86,7 @@ fn script_faults_have_their_lines(rt: HostRuntime) -> Result<(), Fail> {
     let mut out = Vec::with_capacity(rt.alloc(), 2 * LINE_ROOM)?;
     assert!(rt; append_script_fault(&mut out, ScriptFault::Malformed(12)));
     assert!(rt; append_script_fault(&mut out, ScriptFault::TooLong));
-    assert!(rt; out.as_slice() == b"no script 14 12\nno script 15 65536\n");
+    assert!(rt; out.as_slice() == b"no script 14 12\nno script 15 65536\n".as_slice());
     Ok(())
 }
 

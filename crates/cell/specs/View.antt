@@ -1,5 +1,5 @@
 -- What a cell means, over any store.
-use Rattle.std.specs.Prelude.{ℕ, min, List, [], None}
+use Rattle.std.specs.Prelude.{ℕ, min, [], None}
 use Rattle.protocol.specs.Limits.{widest_spread}
 use Rattle.table.specs.Contents.{listed}
 use Rattle.store.specs.declared.Store.{Ghosts}

@@ -1,7 +1,6 @@
 -- One of four changed: what holds of the cell at its place holds of the cell at its site.
-use Rattle.std.proofs.Common.{◌≡◌, sym, refl, ap, ◌∙◌}
+use Rattle.std.proofs.Common.{◌≡◌, sym, ap, ◌∙◌}
 use Rattle.protocol.specs.declared.sites.Site.{Site}
-use Rattle.protocol.specs.declared.sites.Site.TheVariants.{Cell0, Cell1, Cell2, Cell3}
 use Rattle.protocol.specs.declared.sites.PerSite.{PerSite}
 use Rattle.protocol.specs.Sites.{at, put_at}
 

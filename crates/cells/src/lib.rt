@@ -1,4 +1,6 @@
 // The four cells of a line, each over a store of its own, reached by their site.
+#![tactic(auto)]
+
 mod parts;
 
 pub use parts::Cells;

@@ -1,9 +1,8 @@
 -- A chain store of unused rows alone.
-use Rattle.std.proofs.Common.{◌≡◌, ℕ, zero, suc, ◌+◌, ◌<◌, Bool, true, false, ◌&&◌, List, [], ◌∷◌, ◌++◌, length, replicate, Some, None, Option, sym, refl, ap, ◌∙◌, subst, arith, length-append}
+use Rattle.std.proofs.Common.{◌≡◌, ℕ, zero, suc, ◌<◌, true, ◌&&◌, List, [], ◌∷◌, ◌++◌, length, replicate, Some, None, Option, sym, refl, ap, ◌∙◌, subst, arith, length-append}
 use mathlib.Core.Path.{fun_ext}
 use lib.ListN.{length-replicate}
 use Rattle.std.proofs.lemmas.Bool.{and_parts, and_from}
-use Rattle.store.specs.declared.Version.{Version}
 use Rattle.store.specs.Meaning.{rising, used}
 use Rattle.store.proofs.Changing.{used_none}
 use Rattle.chain.specs.declared.Row.{Row}

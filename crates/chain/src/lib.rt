@@ -1,4 +1,6 @@
 // A store whose versions are linked, each to the one before it, and whose unused rows are linked to each other.
+#![tactic(auto)]
+
 ghost use Rattle.std.specs.Prelude.{◌≡◌, ℕ, ◌+◌, ◌<◌, ◌≤◌, min, true, [], length, None, vec_items as items, vec_len as rows_len, vec_capacity as rows_cap};
 ghost use Rattle.protocol.specs.Limits.{row_limit};
 ghost use Rattle.store.specs.Meaning.{with, used, rising};

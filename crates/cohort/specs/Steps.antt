@@ -1,8 +1,6 @@
 -- What a cohort does at an event, and what it is then.
 use Rattle.std.specs.Prelude.{ℕ, Some, None, Option}
-use Rattle.items.specs.declared.ItemSet.{ItemSet}
 use Rattle.items.specs.Sets.{none, inserted}
-use Rattle.protocol.specs.declared.messages.Range.{Range}
 use Rattle.protocol.specs.declared.messages.Vote.{Vote}
 use Rattle.protocol.specs.declared.messages.Vote.TheVariants.{Yes, No}
 use Rattle.protocol.specs.declared.messages.Decision.{Decision}

@@ -1,4 +1,6 @@
 // A cell's record of a transaction that joined it: what it is there, what it holds, and what it does with an order.
+#![tactic(auto)]
+
 mod ballots;
 mod holds;
 mod kinds;

@@ -12,7 +12,7 @@ pub const LONGEST_LINE: usize = 80;
 
 // The write with these numbers and this payload, or none.
 fn write_with<P: PayloadText>(rest: &[u8]) -> Option<Call<P>>
-    ensures { Reads (LawfulCall lawful) (call_text written) (87 ∷ rest.now) result }
+    ensures { Reads (LawfulCall P.lawful) (call_text P.written) (87 ∷ rest.now) result }
 {
     let Some(found) = numbers::<3>(rest) else {
         return None;
@@ -24,7 +24,7 @@ fn write_with<P: PayloadText>(rest: &[u8]) -> Option<Call<P>>
 
 // The call with this letter and, after it, these numbers and this payload; or none.
 fn call_with<P: PayloadText>(letter: char, rest: &[u8]) -> Option<Call<P>>
-    ensures { Reads (LawfulCall lawful) (call_text written) (letter ∷ rest.now) result }
+    ensures { Reads (LawfulCall P.lawful) (call_text P.written) (letter ∷ rest.now) result }
 {
     match letter {
         'O' => {
@@ -78,8 +78,8 @@ fn call_with<P: PayloadText>(letter: char, rest: &[u8]) -> Option<Call<P>>
 
 // The call that the line is, or none.
 pub fn parse_call<P: PayloadText>(line: &[u8]) -> Option<Call<P>>
-    ensures value { Reads (FitsLine lawful written) (call_text written) line.now result }
-    ensures only { Alone lawful written line.now result }
+    ensures value { Reads (FitsLine P.lawful P.written) (call_text P.written) line.now result }
+    ensures only { Alone P.lawful P.written line.now result }
 {
     if line.len() == 0 || line.len() > LONGEST_LINE {
         return None;
@@ -89,5 +89,5 @@ pub fn parse_call<P: PayloadText>(line: &[u8]) -> Option<Call<P>>
 
 // Two calls have two texts, of any length, so that no text stands for more than one.
 pub fn texts_differ<P: PayloadText>()
-    ensures { OneText lawful written }
+    ensures { OneText P.lawful P.written }
 {}

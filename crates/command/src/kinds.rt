@@ -17,8 +17,8 @@ pub fn parse_kind(line: &[u8]) -> Option<Kind>
     }
     let rest = &line[1..];
     match char::from(line[0]) {
-        'K' if rest == b" count" => Some(Kind::Count),
-        'K' if rest == b" pose" => Some(Kind::Pose),
+        'K' if rest == b" count".as_slice() => Some(Kind::Count),
+        'K' if rest == b" pose".as_slice() => Some(Kind::Pose),
         _ => None,
     }
 }

@@ -1,4 +1,6 @@
 // The lines of a script: their grammar, and the parser that answers the one command that a line has as its text.
+#![tactic(auto)]
+
 mod angles;
 mod calls;
 mod kinds;

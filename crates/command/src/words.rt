@@ -44,7 +44,7 @@ fn split_word(text: &[u8]) -> Option<(&[u8], &[u8])>
 
 // The value of the word at the front, and what follows it.
 pub fn next_word<T: Word>(text: &[u8]) -> Option<(T, &[u8])>
-    ensures { elim result [ Some p ↦ Front lawful spelled text.now p.0 p.1.now | None ↦ Nofront lawful spelled text.now ] }
+    ensures { elim result [ Some p ↦ Front T.lawful T.spelled text.now p.0 p.1.now | None ↦ Nofront T.lawful T.spelled text.now ] }
 {
     let (word, rest) = split_word(text)?;
     let value = T::from_word(word)?;
@@ -53,7 +53,7 @@ pub fn next_word<T: Word>(text: &[u8]) -> Option<(T, &[u8])>
 
 // The value of the one word that the text is.
 pub fn last_word<T: Word>(text: &[u8]) -> Option<T>
-    ensures { Reads lawful (λ x. 32 ∷ spelled x) text.now result }
+    ensures { Reads T.lawful (λ x. 32 ∷ T.spelled x) text.now result }
 {
     let (value, rest) = next_word::<T>(text)?;
     if rest.len() == 0 { Some(value) } else { None }

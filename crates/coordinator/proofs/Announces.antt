@@ -1,5 +1,5 @@
 -- When a report makes the coordinator announce a decision.
-use Rattle.std.proofs.Common.{◌≡◌, ℕ, Bool, true, false, cond, is_some, Some, None, Option, sym, refl, ap, ◌∙◌}
+use Rattle.std.proofs.Common.{◌≡◌, Bool, true, false, cond, is_some, Some, Option, refl, ap, ◌∙◌}
 use Rattle.protocol.specs.declared.sites.Site.{Site}
 use Rattle.protocol.specs.declared.sites.Site.TheVariants.{Cell0, Cell1, Cell2, Cell3}
 use Rattle.protocol.specs.declared.sites.PerSite.{PerSite}

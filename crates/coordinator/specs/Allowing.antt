@@ -1,6 +1,5 @@
 -- The stages at which a call is allowed.
 use Rattle.std.specs.Prelude.{Bool, true, false}
-use Rattle.protocol.specs.declared.messages.Decision.{Decision}
 use Rattle.protocol.specs.declared.answers.Stage.{Stage}
 use Rattle.protocol.specs.declared.answers.Stage.TheVariants.{Open, Polling, Decided}
 use Rattle.coordinator.specs.declared.kinds.Allowed.{Allowed}

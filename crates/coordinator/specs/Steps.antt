@@ -1,9 +1,8 @@
 -- What the coordinator does with a transaction at an event, and what it answers.
-use Rattle.std.specs.Prelude.{ℕ, Bool, true, false, cond, not, ◌&&◌, is_some, Some, None, Option, ◌==◌}
+use Rattle.std.specs.Prelude.{ℕ, Bool, true, false, cond, not, is_some, Some, None, Option, ◌==◌}
 use Rattle.protocol.specs.declared.sites.Site.{Site}
 use Rattle.protocol.specs.declared.sites.PerSite.{PerSite}
 use Rattle.protocol.specs.declared.messages.Range.{Range}
-use Rattle.protocol.specs.declared.messages.Vote.{Vote}
 use Rattle.protocol.specs.declared.messages.Vote.TheVariants.{Yes, No}
 use Rattle.protocol.specs.declared.messages.Decision.{Decision}
 use Rattle.protocol.specs.declared.messages.Decision.TheVariants.{Commit, Abort}

@@ -1,4 +1,6 @@
 // The coordinator's record of a live transaction: who joined, who voted, who acknowledged, and how it is decided.
+#![tactic(auto)]
+
 mod allowing;
 mod kinds;
 mod machine;

@@ -1,6 +1,5 @@
-use Rattle.std.proofs.Common.{◌≡◌, ℕ, ◌+◌, ◌<◌, ◌≤◌, Bool, true, false, cond, ◌&&◌, eqb, ltb, List, is_ok, Option, sym, refl, ap, ◌∙◌, subst, arith, le-ltb, lt-ltb, eqb-true}
+use Rattle.std.proofs.Common.{◌≡◌, ℕ, ◌+◌, Bool, true, false, cond, ◌&&◌, eqb, ltb, List, Option, sym, refl, ap, ◌∙◌, arith, le-ltb, lt-ltb, eqb-true}
 use mathlib.Core.Path.{fun_ext}
-use borrow.Author.Tests.{eqb-false}
 use Rattle.std.proofs.lemmas.Bool.Decides.{nat_tests}
 use Rattle.store.specs.declared.Version.{Version}
 use Rattle.store.specs.Meaning.{with, install_answer, unstage_answer}

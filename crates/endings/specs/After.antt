@@ -1,5 +1,5 @@
 -- The versions and staged payloads after those of a set's items below a bound were installed or unstaged.
-use Rattle.std.specs.Prelude.{ℕ, Bool, cond, ◌&&◌, List, is_ok, Some, None, Option, nat_lt}
+use Rattle.std.specs.Prelude.{ℕ, Bool, cond, ◌&&◌, List, is_ok, None, Option, nat_lt}
 use Rattle.items.specs.declared.ItemSet.{ItemSet}
 use Rattle.items.specs.Sets.{has}
 use Rattle.store.specs.declared.Version.{Version}

@@ -1,8 +1,8 @@
 -- The laws of item sets.
-use Rattle.std.proofs.Common.{◌≡◌, ℕ, zero, suc, ◌+◌, ◌-◌, ◌*◌, ◌/◌, ◌%◌, ◌^◌, ◌<◌, ◌≤◌, Bool, true, false, cond, not, ◌&&◌, ◌||◌, eqb, ltb, ◌⊎◌, sym, refl, ap, ◌∙◌, subst, inl, inr, one-mul, pow-suc, zero-add, div-one, arith, pow_mono}
+use Rattle.std.proofs.Common.{◌≡◌, ℕ, zero, suc, ◌+◌, ◌-◌, ◌*◌, ◌/◌, ◌%◌, ◌^◌, ◌<◌, ◌≤◌, true, false, not, ◌||◌, eqb, ltb, ◌⊎◌, sym, ap, ◌∙◌, subst, inl, inr, one-mul, pow-suc, zero-add, div-one, arith, pow_mono}
 use lib.Bits.{bit_and, bit_or, and_shr, or_shr, and_mod, or_mod, and_zero_l, and_zero_r, or_zero_r, and_le_l}
-use Rattle.std.proofs.lemmas.Nat.{pow-add, shl-shr, shr-shr, shr_le, shr_below, pow_below, mod_below, mod-mul-add, div_below, div-add-mod'}
-use Rattle.std.proofs.lemmas.Bool.{eqb-true, eqb-false, eq-eqb, ne_eqb, lt-ltb, cases_eq, cases_lt, both_ways, cond_true}
+use Rattle.std.proofs.lemmas.Nat.{one_shl, pow-add, shl-shr, shr-shr, shr_le, shr_below, pow_below, mod_below, mod-mul-add, div_below, div-add-mod'}
+use Rattle.std.proofs.lemmas.Bool.{eqb-true, eq-eqb, ne_eqb, lt-ltb, cases_eq, cases_lt, both_ways, cond-true, cond-false, le-ltb}
 use Rattle.std.proofs.lemmas.Bool.Decides.{nat_tests}
 use Rattle.items.specs.declared.ItemSet.{ItemSet}
 use Rattle.items.specs.Sets.{has, none, inserted, meeting}
@@ -67,7 +67,7 @@ pub has_inserted : (s : ItemSet) (i k : ℕ) → i < 64 → has (inserted s i) k
 unfolding has inserted
 has_inserted s i k h =
     let t : ItemSet = record { bits = bit_or s.bits (2 ^ i) } in
-    ap (λ y. has y k) (cond_true (ltb i 64) t s (lt-ltb i 64 h))
+    ap (λ y. has y k) (cond-true (ltb i 64) t s (lt-ltb i 64 h))
     ∙ elim (cases_eq i k) [
       | inl e ↦ (let u = or_own s.bits i k e in let w = eq-eqb i k e in grind (arith, nat_tests))
       | inr ne ↦ (let u = or_other s.bits i k ne in let w = ne_eqb i k ne in grind (arith, nat_tests))
@@ -117,3 +117,17 @@ meeting_some s t h e =
 pub has_high : (s : ItemSet) (i : ℕ) → s.bits < 2 ^ 64 → 64 ≤ i → has s i ≡ false
 unfolding has
 has_high s i h l = ap (λ n. eqb (n % 2) 1) (low_shr s.bits i (let m = pow_mono {i = 64} {j = i} l in omega (arith, m, h)))
+
+-- the bits that an insertion writes are those of the set with the item
+pub bits_inserted : (s : ItemSet) (i : ℕ) → i < 64 → ◌≡◌ {A = ItemSet} (record { bits = bit_or s.bits (1 * 2 ^ i % 2 ^ 64) }) (inserted s i)
+unfolding inserted
+bits_inserted s i h =
+    let t : ItemSet = record { bits = bit_or s.bits (2 ^ i) } in
+    ap (λ n. record { bits = bit_or s.bits n }) (one_shl i 64 h) ∙ sym (cond-true (ltb i 64) t s (lt-ltb i 64 h))
+
+-- an item of 64 or above is left out
+pub left_out : (s : ItemSet) (i : ℕ) → 64 ≤ i → s ≡ inserted s i
+unfolding inserted
+left_out s i h =
+    let t : ItemSet = record { bits = bit_or s.bits (2 ^ i) } in
+    sym (cond-false (ltb i 64) t s (le-ltb i 64 h))

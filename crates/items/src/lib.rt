@@ -1,4 +1,6 @@
 // A set of items, each from 0 to 63, in one word.
+#![tactic(auto)]
+
 ghost use Rattle.std.specs.Prelude.{◌≡◌, ℕ, ◌<◌, true};
 ghost use Rattle.items.specs.Sets.{has, none, inserted, meeting};
 
@@ -24,6 +26,7 @@ impl ItemSet {
     }
 
     // Adds an item below 64; any other is left out.
+    #[tactic(auto, using(crate::proofs::Members::bits_inserted, crate::proofs::Members::left_out))]
     pub fn insert(&mut self, item: usize)
         ensures { self.new ≡ inserted self.old item }
     {

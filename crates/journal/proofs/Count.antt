@@ -1,14 +1,14 @@
 -- The rows of a journal are as many as its versions and staged payloads.
-use Rattle.std.proofs.Common.{◌≡◌, ℕ, zero, suc, ◌+◌, ◌<◌, Bool, true, false, cond, eqb, ltb, List, [], ◌∷◌, ◌++◌, length, Some, None, Option, sym, refl, ap, ◌∙◌, arith}
+use Rattle.std.proofs.Common.{◌≡◌, ℕ, zero, suc, ◌+◌, Bool, true, false, cond, eqb, ltb, List, [], ◌∷◌, ◌++◌, length, Some, None, Option, sym, refl, ap, ◌∙◌, arith}
 use Rattle.std.specs.Option.{option_or}
-use Rattle.std.proofs.lemmas.Bool.{eqb-true, cond_true, lt-ltb, le-ltb}
+use Rattle.std.proofs.lemmas.Bool.{eqb-true, cond-true, lt-ltb, le-ltb}
 use Rattle.std.proofs.lemmas.Bool.Decides.{nat_tests}
 use Rattle.store.specs.declared.Version.{Version}
 use Rattle.store.specs.Meaning.{used, held}
 use Rattle.store.proofs.Changing.{used_none}
 use Rattle.journal.specs.declared.Row.{Row}
 use Rattle.journal.specs.declared.Row.TheVariants.{Staged, Installed}
-use Rattle.journal.specs.Rows.{item_of, version_in, staged_in, versions_of, staged_of, absent, precedes, sound}
+use Rattle.journal.specs.Rows.{item_of, versions_of, staged_of, absent, precedes, sound}
 use Rattle.journal.proofs.Order.{sound_parts, absent_staged}
 
 staged_one : {P : Type 0} (b : Bool) (p : P) (vs : List (Version P)) (o : Option P) → (b ≡ true → o ≡ None) →
@@ -45,4 +45,4 @@ used_is n (r ∷ rs) h =
     let q = sound_parts n r rs h in
     let a = used_cons r rs q.1 n in
     let b = used_is n rs q.2 in
-    let c : ◌≡◌ {A = ℕ} (cond (ltb (item_of r) n) 1 0) 1 = cond_true (ltb (item_of r) n) 1 0 (lt-ltb (item_of r) n q.0) in omega arith
+    let c : ◌≡◌ {A = ℕ} (cond (ltb (item_of r) n) 1 0) 1 = cond-true (ltb (item_of r) n) 1 0 (lt-ltb (item_of r) n q.0) in omega arith

@@ -1,8 +1,8 @@
 -- The order of a journal's rows, and what it says of the item of a staged row.
-use Rattle.std.proofs.Common.{◌≡◌, ℕ, zero, suc, ◌<◌, Bool, true, false, cond, not, ◌&&◌, eqb, ltb, List, [], ◌∷◌, ◌++◌, is_some, Some, None, Option, sym, refl, ap, ◌∙◌, subst, inl, inr}
+use Rattle.std.proofs.Common.{◌≡◌, ℕ, zero, suc, ◌<◌, true, false, not, ◌&&◌, eqb, ltb, List, [], ◌∷◌, ◌++◌, is_some, Some, None, sym, refl, ap, ◌∙◌, subst, inl, inr}
 use borrow.Author.Tests.{clash}
 use Rattle.std.specs.Option.{option_or}
-use Rattle.std.proofs.lemmas.Bool.{eqb-true, eq-eqb, ne_eqb, not-true, and_parts, cond_true, cond_false, ltb-true}
+use Rattle.std.proofs.lemmas.Bool.{eq-eqb, not-true, and_parts, cond-true, cond-false, ltb-true}
 use Rattle.std.proofs.lemmas.Bool.Decides.{eqb_tells}
 use Rattle.journal.specs.declared.Held.{Held}
 use Rattle.journal.specs.declared.Row.{Row}
@@ -22,12 +22,12 @@ absent_parts k r rs a =
 
 -- a row of another item has nothing of this one
 pub other_staged : {P : Type 0} (r : Row P) (k : ℕ) → eqb (item_of r) k ≡ false → staged_in r k ≡ None
-other_staged (Staged i p) k e = cond_false (eqb i k) (Some p) None e
+other_staged (Staged i p) k e = cond-false (eqb i k) (Some p) None e
 other_staged (Installed i v) k e = refl
 
 pub other_version : {P : Type 0} (r : Row P) (k : ℕ) → eqb (item_of r) k ≡ false → version_in r k ≡ []
 other_version (Staged i p) k e = refl
-other_version (Installed i v) k e = cond_false (eqb i k) (v ∷ []) [] e
+other_version (Installed i v) k e = cond-false (eqb i k) (v ∷ []) [] e
 
 pub absent_staged : {P : Type 0} (rows : List (Row P)) (k : ℕ) → absent k rows ≡ true → staged_of rows k ≡ None
 absent_staged [] k a = refl
@@ -42,7 +42,7 @@ absent_versions (r ∷ rs) k a =
     ap (λ vs. vs ++ versions_of rs k) (other_version r k p.0) ∙ absent_versions rs k p.1
 
 pub staged_self : {P : Type 0} (k : ℕ) (p : P) → staged_in (Staged k p) k ≡ Some p
-staged_self k p = cond_true (eqb k k) (Some p) None (eq-eqb k k refl)
+staged_self k p = cond-true (eqb k k) (Some p) None (eq-eqb k k refl)
 
 -- an item with a staged row is not absent
 present : {P : Type 0} (rows : List (Row P)) (j k : ℕ) (p : P) → absent k rows ≡ true → StagedAt rows j k p → ⊥
@@ -53,7 +53,7 @@ present (r ∷ rs) (suc j) k p a s = present rs j k p (absent_parts k r rs a).1 
 -- no row before an item's staged one has a staged payload of it
 pub none_before : {P : Type 0} (r : Row P) (rs : List (Row P)) (j k : ℕ) (p : P) → precedes r rs ≡ true → StagedAt rs j k p → staged_in r k ≡ None
 none_before (Staged i q) rs j k p h s =
-    elim (eqb_tells i k) [ inl w ↦ absurd (present rs j k p (ap (λ m. absent m rs) (sym w.1) ∙ h) s) | inr w ↦ cond_false (eqb i k) (Some q) None w.0 ]
+    elim (eqb_tells i k) [ inl w ↦ absurd (present rs j k p (ap (λ m. absent m rs) (sym w.1) ∙ h) s) | inr w ↦ cond-false (eqb i k) (Some q) None w.0 ]
 none_before (Installed i v) rs j k p h s = refl
 
 -- no row of the item comes after its staged one

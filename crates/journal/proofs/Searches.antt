@@ -1,14 +1,13 @@
 -- Searches of the rows from the end back.
-use Rattle.std.proofs.Common.{◌≡◌, ℕ, zero, suc, ◌+◌, ◌-◌, ◌<◌, ◌≤◌, Bool, true, false, cond, eqb, List, [], ◌∷◌, ◌++◌, length, get_or, take, drop, Some, None, Option, sym, refl, ap, ◌∙◌, append_assoc, arith}
+use Rattle.std.proofs.Common.{◌≡◌, ℕ, zero, suc, ◌+◌, ◌-◌, ◌<◌, ◌≤◌, Bool, true, false, cond, eqb, List, [], ◌∷◌, ◌++◌, length, get_or, take, drop, Some, None, sym, refl, ap, ◌∙◌, append_assoc, arith}
 use Rattle.std.proofs.lemmas.Bool.{eqb-true}
-use Rattle.std.specs.Option.{option_or}
 use Rattle.std.proofs.lemmas.List.{at_drop_more, append-nil}
 use Rattle.store.specs.declared.Version.{Version}
 use Rattle.store.specs.Meaning.{last_of}
 use Rattle.store.proofs.Rising.{last_more}
 use Rattle.journal.specs.declared.Row.{Row}
 use Rattle.journal.specs.declared.Row.TheVariants.{Staged, Installed}
-use Rattle.journal.specs.Rows.{version_in, staged_in, versions_of, staged_of, StagedAt, Found}
+use Rattle.journal.specs.Rows.{version_in, staged_in, versions_of, StagedAt}
 
 -- what is left of the rows, one row earlier
 pub drop_back : {P Y : Type 0} (F : List (Row P) → Y) (rows : List (Row P)) (i : ℕ) (r : Row P) → 0 < i → i ≤ length rows → r ≡ get_or rows (i - 1) r →

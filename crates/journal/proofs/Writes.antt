@@ -1,10 +1,9 @@
 -- What the rows mean once the staged row of an item is written or removed, or a staged row is added.
-use Rattle.std.proofs.Common.{◌≡◌, ℕ, zero, suc, ◌<◌, Bool, true, false, cond, not, ◌&&◌, eqb, ltb, List, [], ◌∷◌, ◌++◌, length, set, Some, None, Option, sym, refl, ap, ◌∙◌, subst, inl, inr, append_assoc}
-use mathlib.Core.Path.{fun_ext}
+use Rattle.std.proofs.Common.{◌≡◌, ℕ, zero, suc, ◌<◌, Bool, true, false, cond, not, ◌&&◌, eqb, ltb, List, [], ◌∷◌, ◌++◌, set, Some, None, Option, sym, refl, ap, ◌∙◌, subst, inl, inr, append_assoc}
 use Rattle.std.specs.Option.{option_or}
 use Rattle.std.specs.List.{remove}
 use Rattle.std.proofs.lemmas.List.{append-nil}
-use Rattle.std.proofs.lemmas.Bool.{eqb-true, eq-eqb, ne_eqb, and_from, cond_true, cond_false, lt-ltb}
+use Rattle.std.proofs.lemmas.Bool.{eq-eqb, ne_eqb, and_from, cond-true, cond-false, lt-ltb}
 use Rattle.std.proofs.lemmas.Bool.Decides.{eqb_tells}
 use Rattle.store.specs.declared.Version.{Version}
 use Rattle.store.specs.Meaning.{with, rising, later, last_of}
@@ -13,7 +12,7 @@ use Rattle.store.proofs.Rising.{rising_grow}
 use Rattle.journal.specs.declared.Row.{Row}
 use Rattle.journal.specs.declared.Row.TheVariants.{Staged, Installed}
 use Rattle.journal.specs.Rows.{item_of, version_in, staged_in, versions_of, staged_of, absent, precedes, sound, StagedAt}
-use Rattle.journal.proofs.Order.{sound_parts, absent_parts, other_staged, other_version, absent_staged, absent_versions, staged_self, none_before, none_after}
+use Rattle.journal.proofs.Order.{sound_parts, absent_parts, other_staged, other_version, absent_staged, absent_versions, none_before, none_after}
 
 or_none : {X : Type 0} (o : Option X) → option_or o None ≡ o
 or_none None = refl
@@ -25,9 +24,9 @@ staged_front : {P : Type 0} (k q : ℕ) (o : ℕ → Option P) (w : Option P) (r
 staged_front k q o w rest e =
     elim (eqb_tells k q) [
       | inl t ↦
-          ap (option_or (o q)) (cond_true (eqb k q) w (rest q) t.0) ∙ (ap (λ x. option_or x w) (ap o (sym t.1) ∙ e) ∙ sym (cond_true (eqb k q) w (option_or (o q) (rest q)) t.0))
+          ap (option_or (o q)) (cond-true (eqb k q) w (rest q) t.0) ∙ (ap (λ x. option_or x w) (ap o (sym t.1) ∙ e) ∙ sym (cond-true (eqb k q) w (option_or (o q) (rest q)) t.0))
       | inr t ↦
-          ap (option_or (o q)) (cond_false (eqb k q) w (rest q) t.0) ∙ sym (cond_false (eqb k q) w (option_or (o q) (rest q)) t.0)
+          ap (option_or (o q)) (cond-false (eqb k q) w (rest q) t.0) ∙ sym (cond-false (eqb k q) w (option_or (o q) (rest q)) t.0)
     ]
 
 versions_front : {P : Type 0} (k q : ℕ) (o : ℕ → List (Version P)) (w : List (Version P)) (rest : ℕ → List (Version P)) →
@@ -35,10 +34,10 @@ versions_front : {P : Type 0} (k q : ℕ) (o : ℕ → List (Version P)) (w : Li
 versions_front k q o w rest =
     elim (eqb_tells k q) [
       | inl t ↦
-          ap (λ vs. o q ++ vs) (cond_true (eqb k q) (rest k ++ w) (rest q) t.0)
-          ∙ (ap (λ m. o m ++ (rest k ++ w)) (sym t.1) ∙ (sym (append_assoc (o k) (rest k) w) ∙ sym (cond_true (eqb k q) ((o k ++ rest k) ++ w) (o q ++ rest q) t.0)))
+          ap (λ vs. o q ++ vs) (cond-true (eqb k q) (rest k ++ w) (rest q) t.0)
+          ∙ (ap (λ m. o m ++ (rest k ++ w)) (sym t.1) ∙ (sym (append_assoc (o k) (rest k) w) ∙ sym (cond-true (eqb k q) ((o k ++ rest k) ++ w) (o q ++ rest q) t.0)))
       | inr t ↦
-          ap (λ vs. o q ++ vs) (cond_false (eqb k q) (rest k ++ w) (rest q) t.0) ∙ sym (cond_false (eqb k q) ((o k ++ rest k) ++ w) (o q ++ rest q) t.0)
+          ap (λ vs. o q ++ vs) (cond-false (eqb k q) (rest k ++ w) (rest q) t.0) ∙ sym (cond-false (eqb k q) ((o k ++ rest k) ++ w) (o q ++ rest q) t.0)
     ]
 
 -- the staged row of an item is written, with a row of the same item
@@ -50,10 +49,10 @@ set_staged n (r ∷ rs) zero k p x q h s e =
     elim (eqb_tells k q) [
       | inl t ↦
           ap (λ m. option_or (staged_in x m) (staged_of rs m)) (sym t.1) ∙ (ap (option_or (staged_in x k)) (absent_staged rs k a) ∙ (or_none (staged_in x k)
-          ∙ sym (cond_true (eqb k q) (staged_in x k) (staged_of (r ∷ rs) q) t.0)))
+          ∙ sym (cond-true (eqb k q) (staged_in x k) (staged_of (r ∷ rs) q) t.0)))
       | inr t ↦
           ap (λ o. option_or o (staged_of rs q)) (other_staged x q (ap (λ m. eqb m q) e ∙ t.0) ∙ sym (other_staged r q (ap (λ y. eqb (item_of y) q) s ∙ t.0)))
-          ∙ sym (cond_false (eqb k q) (staged_in x k) (staged_of (r ∷ rs) q) t.0)
+          ∙ sym (cond-false (eqb k q) (staged_in x k) (staged_of (r ∷ rs) q) t.0)
     ]
 set_staged n (r ∷ rs) (suc j) k p x q h s e =
     let b = sound_parts n r rs h in
@@ -68,10 +67,10 @@ set_versions n (r ∷ rs) zero k p x q h s e =
       | inl t ↦
           ap (λ m. version_in x m ++ versions_of rs m) (sym t.1) ∙ (ap (λ vs. version_in x k ++ vs) a ∙ (append-nil (version_in x k)
           ∙ (sym (ap (λ y. (version_in y k ++ versions_of rs k) ++ version_in x k) s ∙ ap (λ vs. vs ++ version_in x k) a)
-          ∙ sym (cond_true (eqb k q) (versions_of (r ∷ rs) k ++ version_in x k) (versions_of (r ∷ rs) q) t.0))))
+          ∙ sym (cond-true (eqb k q) (versions_of (r ∷ rs) k ++ version_in x k) (versions_of (r ∷ rs) q) t.0))))
       | inr t ↦
           ap (λ vs. vs ++ versions_of rs q) (other_version x q (ap (λ m. eqb m q) e ∙ t.0) ∙ sym (ap (λ y. version_in y q) s))
-          ∙ sym (cond_false (eqb k q) (versions_of (r ∷ rs) k ++ version_in x k) (versions_of (r ∷ rs) q) t.0)
+          ∙ sym (cond-false (eqb k q) (versions_of (r ∷ rs) k ++ version_in x k) (versions_of (r ∷ rs) q) t.0)
     ]
 set_versions n (r ∷ rs) (suc j) k p x q h s e =
     ap (λ vs. version_in r q ++ vs) (set_versions n rs j k p x q (sound_parts n r rs h).2 s e) ∙ versions_front k q (version_in r) (version_in x k) (versions_of rs)
@@ -114,7 +113,7 @@ pub installed_versions : {P : Type 0} (n : ℕ) (rows : List (Row P)) (j k : ℕ
     versions_of (set rows j (Installed k v)) q ≡ with (versions_of rows) k (versions_of rows k ++ (v ∷ [])) q
 installed_versions n rows j k p v q h s =
     set_versions n rows j k p (Installed k v) q h s refl
-    ∙ ap (λ vs. with (versions_of rows) k (versions_of rows k ++ vs) q) (cond_true (eqb k k) (v ∷ []) [] (eq-eqb k k refl))
+    ∙ ap (λ vs. with (versions_of rows) k (versions_of rows k ++ vs) q) (cond-true (eqb k k) (v ∷ []) [] (eq-eqb k k refl))
 
 rising_either : {P : Type 0} (b : Bool) (new old : List (Version P)) → rising new ≡ true → rising old ≡ true → rising (cond b new old) ≡ true
 rising_either true new old h e = h
@@ -151,7 +150,7 @@ push_absent (r ∷ rs) m x a e =
 
 push_precedes : {P : Type 0} (r : Row P) (rs : List (Row P)) (k : ℕ) (p : P) → precedes r rs ≡ true → staged_in r k ≡ None → precedes r (rs ++ (Staged k p ∷ [])) ≡ true
 push_precedes (Staged i q) rs k p h e =
-    push_absent rs i (Staged k p) h (elim (eqb_tells i k) [ inl t ↦ (let f : Some q ≡ None = sym (cond_true (eqb i k) (Some q) None t.0) ∙ e in cc) | inr t ↦ ne_eqb k i (λ f. t.1 (sym f)) ])
+    push_absent rs i (Staged k p) h (elim (eqb_tells i k) [ inl t ↦ (let f : Some q ≡ None = sym (cond-true (eqb i k) (Some q) None t.0) ∙ e in cc) | inr t ↦ ne_eqb k i (λ f. t.1 (sym f)) ])
 push_precedes (Installed i v) rs k p h e = refl
 
 pub push_sound : {P : Type 0} (n : ℕ) (rows : List (Row P)) (k : ℕ) (p : P) → k < n → sound n rows ≡ true → staged_of rows k ≡ None →
@@ -175,9 +174,9 @@ removed_staged n [] j k p q h s = absurd s
 removed_staged n (r ∷ rs) zero k p q h s =
     elim (eqb_tells k q) [
       | inl t ↦
-          ap (staged_of rs) (sym t.1) ∙ (absent_staged rs k (none_after r rs k p (sound_parts n r rs h).1 s) ∙ sym (cond_true (eqb k q) None (staged_of (r ∷ rs) q) t.0))
+          ap (staged_of rs) (sym t.1) ∙ (absent_staged rs k (none_after r rs k p (sound_parts n r rs h).1 s) ∙ sym (cond-true (eqb k q) None (staged_of (r ∷ rs) q) t.0))
       | inr t ↦
-          sym (ap (λ o. option_or o (staged_of rs q)) (other_staged r q (ap (λ y. eqb (item_of y) q) s ∙ t.0))) ∙ sym (cond_false (eqb k q) None (staged_of (r ∷ rs) q) t.0)
+          sym (ap (λ o. option_or o (staged_of rs q)) (other_staged r q (ap (λ y. eqb (item_of y) q) s ∙ t.0))) ∙ sym (cond-false (eqb k q) None (staged_of (r ∷ rs) q) t.0)
     ]
 removed_staged n (r ∷ rs) (suc j) k p q h s =
     let b = sound_parts n r rs h in

@@ -1,5 +1,5 @@
 -- What the rows of a journal mean.
-use Rattle.std.specs.Prelude.{◌≡◌, ℕ, zero, suc, ◌<◌, Bool, true, false, cond, not, ◌&&◌, List, [], ◌∷◌, ◌++◌, length, Some, None, Option, ◌==◌, nat_lt}
+use Rattle.std.specs.Prelude.{◌≡◌, ℕ, zero, suc, ◌<◌, Bool, true, cond, not, ◌&&◌, List, [], ◌∷◌, ◌++◌, length, Some, None, Option, ◌==◌, nat_lt}
 use Rattle.std.specs.Option.{option_or}
 use Rattle.store.specs.declared.Version.{Version}
 use Rattle.journal.specs.declared.Held.{Held}

@@ -1,4 +1,6 @@
 // A store whose rows stand in the order in which they were staged.
+#![tactic(auto)]
+
 ghost use Rattle.std.specs.Prelude.{◌≡◌, ℕ, ◌≤◌, min, true, length, None, vec_items as items, vec_len as rows_len, vec_capacity as rows_cap};
 ghost use Rattle.protocol.specs.Limits.{row_limit};
 ghost use Rattle.store.specs.Meaning.{with, rising, last_of};

@@ -1,6 +1,5 @@
 -- A line over four cleared stores is fresh.
 use Rattle.std.proofs.Common.{◌≡◌, ℕ, ◌≤◌, [], None, sym, refl, subst}
-use Rattle.protocol.specs.declared.sites.Site.{Site}
 use Rattle.protocol.specs.declared.sites.Site.TheVariants.{Cell0, Cell1, Cell2, Cell3}
 use Rattle.protocol.specs.declared.sites.PerSite.{PerSite}
 use Rattle.protocol.specs.Sites.{at}

@@ -1,5 +1,5 @@
 -- What a line means, over any four stores.
-use Rattle.std.specs.Prelude.{ℕ, List, []}
+use Rattle.std.specs.Prelude.{ℕ, []}
 use Rattle.protocol.specs.declared.sites.PerSite.{PerSite}
 use Rattle.table.specs.Contents.{listed}
 use Rattle.store.specs.declared.Store.{Ghosts}

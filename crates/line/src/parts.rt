@@ -8,7 +8,7 @@ use table::Table;
 mod admitting;
 mod calling;
 mod deliveries;
-mod endings;
+mod leaving;
 mod public;
 mod steps;
 

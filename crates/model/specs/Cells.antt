@@ -1,6 +1,5 @@
 -- A cell: its store by its meaning, its clock, spread and LAST, and the cohorts that joined it. What it answers and becomes.
-use Rattle.std.specs.Prelude.{ℕ, max, Bool, true, false, cond, List, [], ◌∷◌, is_some, is_ok, Some, None, Ok, Err, Option, Result, nat_lt}
-use Rattle.items.specs.declared.ItemSet.{ItemSet}
+use Rattle.std.specs.Prelude.{ℕ, max, Bool, true, false, cond, List, is_some, is_ok, Some, None, Ok, Err, Option, Result, nat_lt}
 use Rattle.items.specs.Sets.{has}
 use Rattle.protocol.specs.declared.faults.CellFault.{CellFault}
 use Rattle.protocol.specs.declared.faults.CellFault.TheVariants.{NotActive, NoItem, Held, NoRow}

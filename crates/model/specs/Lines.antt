@@ -1,5 +1,5 @@
 -- A line: four cells, the coordinator's transactions, the post, and how many transactions were opened.
-use Rattle.std.specs.Prelude.{ℕ, ◌+◌, ◌-◌, Bool, true, false, cond, not, ◌&&◌, List, [], ◌∷◌, ◌++◌, length, is_some, is_ok, Some, None, Ok, Err, Option, Result, nat_le, nat_lt}
+use Rattle.std.specs.Prelude.{ℕ, ◌+◌, ◌-◌, Bool, cond, List, [], ◌∷◌, ◌++◌, length, is_some, is_ok, Some, None, Ok, Err, Option, Result, nat_le, nat_lt}
 use Rattle.std.specs.List.{remove}
 use Rattle.protocol.specs.declared.sites.Site.{Site}
 use Rattle.protocol.specs.declared.sites.Site.TheVariants.{Cell0, Cell1, Cell2, Cell3}
@@ -15,7 +15,6 @@ use Rattle.protocol.specs.declared.messages.Body.{Body}
 use Rattle.protocol.specs.declared.messages.Body.TheVariants.{ToCell, ToCoordinator}
 use Rattle.protocol.specs.declared.messages.Message.{Message}
 use Rattle.protocol.specs.declared.answers.Stage.{Stage}
-use Rattle.protocol.specs.declared.answers.Stage.TheVariants.{Open, Polling, Decided}
 use Rattle.protocol.specs.declared.answers.Delivery.{Delivery}
 use Rattle.protocol.specs.declared.answers.Delivery.TheVariants.{Ranged, Declined, Noted, Committed, Aborted, Settled, Stale, Closed}
 use Rattle.protocol.specs.declared.faults.CellFault.{CellFault}
@@ -23,14 +22,13 @@ use Rattle.protocol.specs.declared.faults.Fault.{Fault}
 use Rattle.protocol.specs.declared.faults.Fault.TheVariants.{NotLive, NoCell, WrongStage, NoneJoined, AtCell, NoRoom, TooManyLive, NumbersUsed, NoMessage, TooLate}
 use Rattle.protocol.specs.Limits.{last_tick, live_limit, opened_limit, post_limit}
 use Rattle.protocol.specs.Sites.{site_of, at, put_at, one, how_many}
-use Rattle.table.specs.Contents.{nth_in, find_in, without, stepped}
+use Rattle.table.specs.Contents.{find_in, without, stepped}
 use Rattle.coordinator.specs.declared.kinds.Transaction.{Transaction}
 use Rattle.coordinator.specs.declared.kinds.Event.{Event}
 use Rattle.coordinator.specs.declared.kinds.Event.TheVariants.{Join, Submit, GiveUp, Receive}
 use Rattle.coordinator.specs.Steps.{number_in, opened, step_to, heard_answer, sends_for, missing, repeated, is_empty}
 use Rattle.coordinator.specs.Allowing.{allows}
 use Rattle.coordinator.specs.declared.kinds.Allowed.{Allowed}
-use Rattle.coordinator.specs.declared.kinds.Allowed.TheVariants.{OnlyOpen, Undecided, Submitted, AnyStage}
 use Rattle.model.specs.Cells.{CellView, at_clock, join_told, join_done, read_told, read_done, write_told, write_done, leave_told, leave_done, report_of, receive_done, close_done}
 
 pub record LineView (P : Type 0) : Type 0 where

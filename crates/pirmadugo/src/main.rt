@@ -1,4 +1,6 @@
 // Reads a script from standard input, and prints a line for each of its lines.
+#![tactic(auto)]
+
 use script::{Session, line_end, too_long};
 use std::io;
 use std::io::{Read, Write};

@@ -1,7 +1,7 @@
 -- What an angle of a whole number of degrees is, and that no other number has it.
 use Rattle.std.proofs.Common.{◌≡◌, ℕ, zero, suc, ◌-◌, ◌*◌, ◌/◌, ◌^◌, ◌<◌, ◌≤◌, min, Bool, true, false, cond, ◌&&◌, ◌||◌, T, eqb, leb, ℤ, pos, negsuc, neg_ℤ, Some, None, sym, refl, ap, ◌∙◌, subst, lt_irrefl, mul-pos, mul-one, mul_right_comm, mul-div_cancel, arith, eqb→eq, leb→le}
 use mathlib.Core.Bool.{beq}
-use native.Mathlib.Nat.{eq_of_mul_eq_mul_right}
+use native.Mathlib.Nat.{eq_of_mul-eq-mul_right}
 use lib.Ieee.{Float, nan, inf, fin, binary32, up, down, eq, round, of_int, to_signed}
 use lib.Ieee.Exact.{HasValue}
 use lib.Ieee.Back.{round_whole}
@@ -15,7 +15,7 @@ signed_of s a = cond s (neg_ℤ (pos a)) (pos a)
 -- the size of what equals a whole number
 size_is : (m : ℕ) (e : ℤ) (n : ℕ) (d : ℤ) (a : ℕ) → n * up d * 1 ≡ a * down d → m * up e * down d ≡ n * up d * down e → m * up e ≡ a * down e
 size_is m e n d a h k =
-    eq_of_mul_eq_mul_right (down d) (down_pos d) (m * up e) (a * down e)
+    eq_of_mul-eq-mul_right (down d) (down_pos d) (m * up e) (a * down e)
     (k ∙ ap (λ (x : ℕ). x * down e) (sym (mul-one (n * up d)) ∙ h) ∙ mul_right_comm a (down d) (down e))
 
 cut_is : (m : ℕ) (e : ℤ) (a : ℕ) → m * up e ≡ a * down e → m * up e / down e ≡ a

@@ -1,4 +1,6 @@
 // Poses of a robot arm: four joint angles in single precision, their bits, and angles of whole degrees.
+#![tactic(auto)]
+
 mod degrees;
 mod poses;
 

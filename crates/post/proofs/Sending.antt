@@ -1,5 +1,5 @@
 -- Messages sent one behind the other.
-use Rattle.std.proofs.Common.{◌≡◌, ℕ, ◌+◌, Bool, true, false, List, [], ◌∷◌, ◌++◌, length, sym, refl, ap, ◌∙◌, append_assoc, length-append}
+use Rattle.std.proofs.Common.{◌≡◌, ◌+◌, Bool, true, false, List, ◌++◌, length, refl, ap, ◌∙◌, append_assoc, length-append}
 use Rattle.protocol.specs.declared.messages.Message.{Message}
 use Rattle.protocol.specs.Sites.{one}
 use Rattle.model.specs.Lines.{letter_if}

@@ -1,5 +1,5 @@
 -- What waits in the post, and whether there is room.
-use Rattle.std.specs.Prelude.{ℕ, ◌+◌, ◌-◌, Bool, cond, List, [], ◌∷◌, ◌++◌, length, Ok, Err, Result, nat_le}
+use Rattle.std.specs.Prelude.{ℕ, ◌+◌, ◌-◌, Bool, cond, List, length, Ok, Err, Result, nat_le}
 use Rattle.protocol.specs.declared.messages.Message.{Message}
 use Rattle.protocol.specs.Limits.{post_limit}
 use Rattle.table.specs.Contents.{listed}

@@ -1,4 +1,6 @@
 // The post: at most 64 messages that wait for delivery. New ones go to its end.
+#![tactic(auto)]
+
 mod calls;
 mod parts;
 

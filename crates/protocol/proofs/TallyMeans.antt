@@ -1,9 +1,8 @@
 -- What the tally's formula means.
-use Rattle.std.proofs.Common.{◌≡◌, ℕ, ◌<◌, ◌≤◌, max, Bool, true, false, cond, ◌&&◌, leb, Some, None, Option, sym, refl, ap, ◌∙◌, subst, arith}
+use Rattle.std.proofs.Common.{◌≡◌, ℕ, ◌≤◌, Bool, true, false, cond, leb, Some, None, Option, sym, refl, ap, ◌∙◌, arith}
 use Rattle.std.proofs.lemmas.Bool.Decides.{nat_tests}
 use Rattle.protocol.specs.declared.messages.Range.{Range}
 use Rattle.protocol.specs.declared.messages.Decision.TheVariants.{Commit, Abort}
-use Rattle.protocol.specs.declared.sites.Site.{Site}
 use Rattle.protocol.specs.declared.sites.Site.TheVariants.{Cell0, Cell1, Cell2, Cell3}
 use Rattle.protocol.specs.declared.sites.PerSite.{PerSite}
 use Rattle.protocol.specs.Sites.{at}

@@ -1,9 +1,8 @@
 -- What the formula of a vote means: the least and the greatest of the ticks that a cell may promise.
-use Rattle.std.proofs.Common.{◌≡◌, ℕ, ◌+◌, ◌<◌, ◌≤◌, min, max, Bool, true, false, cond, leb, List, [], ◌∷◌, sym, refl, ap, ◌∙◌, arith}
+use Rattle.std.proofs.Common.{◌≡◌, ℕ, ◌<◌, ◌≤◌, max, Bool, true, false, cond, leb, List, [], ◌∷◌, refl, arith}
 use Rattle.std.proofs.lemmas.Bool.{leb-true, leb-false}
 use Rattle.protocol.specs.declared.messages.Vote.TheVariants.{Yes, No}
-use Rattle.protocol.specs.Limits.{last_tick}
-use Rattle.protocol.specs.Formulas.{greatest, conflict, earliest_tick, latest_tick, range, vote_of, Each, Open, Bounds, Spans}
+use Rattle.protocol.specs.Formulas.{greatest, conflict, earliest_tick, latest_tick, range, vote_of, Each, Open, Spans}
 
 pub greatest_from : (m : ℕ) (ns : List ℕ) → m ≤ greatest m ns
 greatest_from m [] = omega arith

@@ -1,9 +1,7 @@
 -- Each refusal's number, layer and detail.
 use Rattle.std.specs.Prelude.{ℕ}
-use Rattle.protocol.specs.declared.sites.Site.{Site}
 use Rattle.protocol.specs.declared.faults.Layer.{Layer}
 use Rattle.protocol.specs.declared.faults.Layer.TheVariants.{Line, Cell, Store}
-use Rattle.protocol.specs.declared.faults.CellFault.{CellFault}
 use Rattle.protocol.specs.declared.faults.CellFault.TheVariants.{NotActive, NoItem, Held, NoRow}
 use Rattle.protocol.specs.declared.faults.Fault.{Fault}
 use Rattle.protocol.specs.declared.faults.Fault.TheVariants.{NotLive, NoCell, WrongStage, NoneJoined, AtCell, NoRoom, TooManyLive, NumbersUsed, NoMessage, TooLate}

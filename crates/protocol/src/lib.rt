@@ -1,4 +1,6 @@
 // What every layer speaks of: sites and ranges, messages, answers and faults, the bounds of the protocol, and its formulas.
+#![tactic(auto)]
+
 mod answers;
 mod calls;
 mod faults;

@@ -1,5 +1,5 @@
 -- A line over four stores of 8 items and 64 rows, with spreads of 500, is the line that a script starts with.
-use Rattle.std.proofs.Common.{◌≡◌, ℕ, [], None, vec_len, sym, refl, ap, ◌∙◌}
+use Rattle.std.proofs.Common.{◌≡◌, ℕ, [], None, vec_len, ap, ◌∙◌}
 use Rattle.protocol.specs.declared.sites.PerSite.{PerSite}
 use Rattle.protocol.specs.Sites.{of_all}
 use Rattle.journal.specs.declared.Journal.{Journal}

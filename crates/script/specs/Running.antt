@@ -1,5 +1,5 @@
 -- What a script runs on: a line with 8 items and 64 rows in each cell and a spread of 500, over journal and chain stores.
-use Rattle.std.specs.Prelude.{◌≡◌, ℕ, List, [], None, vec_items, vec_len}
+use Rattle.std.specs.Prelude.{ℕ, [], None, vec_items, vec_len}
 use Rattle.protocol.specs.Sites.{of_all}
 use Rattle.store.specs.declared.Items.{Items}
 use Rattle.store.specs.declared.Store.{Ghosts}

@@ -1,4 +1,6 @@
 // A script: each line is a command, and each is answered by a line.
+#![tactic(auto)]
+
 mod answering;
 mod lines;
 mod making;

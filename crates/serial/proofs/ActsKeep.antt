@@ -1,6 +1,6 @@
 -- Each change of a cell of functions keeps what holds of holds, intervals, staged payloads and newest versions.
 use Rattle.std.proofs.Common.{◌≡◌, ℕ, ◌<◌, ◌≤◌, Bool, true, false, cond, eqb, List, [], ◌∷◌, ◌++◌, is_some, Some, None, Option, sym, refl, ap, ◌∙◌, arith}
-use Rattle.std.proofs.lemmas.Bool.{eq-eqb, ne_eqb, lt-ltb, cond_true, cond_false}
+use Rattle.std.proofs.lemmas.Bool.{eq-eqb, ne_eqb, lt-ltb, cond-true, cond-false}
 use Rattle.std.proofs.lemmas.Bool.Decides.{nat_tests}
 use Rattle.protocol.specs.declared.messages.Range.{Range}
 use Rattle.store.specs.declared.Version.{Version}
@@ -33,7 +33,7 @@ inv_drop w s x v a = grind (arith, nat_tests)
 
 -- one that was installed is not the one that changes
 elsewhere : (f : ℕ → Life) (x y t : ℕ) (p : Life) → f y ≡ Installed t → (x ≡ y → ⊥) → with f x p y ≡ Installed t
-elsewhere f x y t p e ne = cond_false (eqb x y) p (f y) (ne_eqb x y ne) ∙ e
+elsewhere f x y t p e ne = cond-false (eqb x y) p (f y) (ne_eqb x y ne) ∙ e
 
 other_than : (f : ℕ → Life) (x y t : ℕ) → f y ≡ Installed t → has_interval (f x) ≡ false → x ≡ y → ⊥
 other_than f x y t e a q = let h : has_interval (f y) ≡ false = ap (λ z. has_interval (f z)) (sym q) ∙ a in grind (arith, h, e)
@@ -72,7 +72,7 @@ written_install w s x t v h a i u e = go (s.writes x i) refl e
     go : (b : Bool) → s.writes x i ≡ b → last_of (cond b (grown (s.versions i) t (s.staged i)) (s.versions i)) ≡ Some u →
         (y : ℕ) × (with s.life x (Installed t) y ≡ Installed u.time) × (s.writes y i ≡ true)
     go true m f =
-        (x, cond_true (eqb x x) (Installed t) (s.life x) (eq-eqb x x refl) ∙ ap (λ z. Installed z) (grown_last (s.versions i) t (s.staged i) u (v.stages x i (holds_prepared (s.life x) a) m) f), m)
+        (x, cond-true (eqb x x) (Installed t) (s.life x) (eq-eqb x x refl) ∙ ap (λ z. Installed z) (grown_last (s.versions i) t (s.staged i) u (v.stages x i (holds_prepared (s.life x) a) m) f), m)
     go false m f =
         let q = h i u f in
         (q.0, elsewhere s.life x q.0 u.time (Installed t) q.1 (holding_other s.life x q.0 u.time q.1 (holds_prepared (s.life x) a)), q.2)

@@ -1,6 +1,6 @@
 -- What the cohorts of a cell say: who holds what, who stands in the way of a read or a write, and who delays a vote.
 use Rattle.std.proofs.Common.{◌≡◌, ℕ, ◌<◌, min, Bool, true, false, cond, not, ◌&&◌, eqb, ltb, List, [], ◌∷◌, Some, None, Ok, Err, Option, sym, refl, ap, ◌∙◌, subst, arith}
-use Rattle.std.proofs.lemmas.Bool.{ne_eqb, ltb-true, cond_true}
+use Rattle.std.proofs.lemmas.Bool.{ne_eqb, ltb-true, cond-true}
 use Rattle.std.proofs.lemmas.Bool.Decides.{nat_tests}
 use Rattle.items.specs.declared.ItemSet.{ItemSet}
 use Rattle.items.specs.Sets.{has, meeting}
@@ -159,6 +159,6 @@ above_delays x w t (q ∷ cs) y c l a f ne m e =
         let meets : (not (eqb c.tx x) && meeting c.reads w) ≡ true = (let h = ne_eqb c.tx x ne in grind (arith, nat_tests)) in
         let first : delays x w (q ∷ cs) ≡ l ∷ delays x w cs =
         ap (λ z. delays x w (z ∷ cs)) k
-        ∙ (cond_true (not (eqb c.tx x) && meeting c.reads w) (with_latest (latest_in c.state) (delays x w cs)) (delays x w cs) meets ∙ ap (λ o. with_latest o (delays x w cs)) e) in
+        ∙ (cond-true (not (eqb c.tx x) && meeting c.reads w) (with_latest (latest_in c.state) (delays x w cs)) (delays x w cs) meets ∙ ap (λ o. with_latest o (delays x w cs)) e) in
         (subst (Each (λ d. d < t)) first a).0
     go false g ih = ih g

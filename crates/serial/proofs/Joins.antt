@@ -1,6 +1,6 @@
 -- Join: the cell has room for the transaction, which is new there.
 use Rattle.std.proofs.Common.{◌≡◌, ℕ, ◌<◌, ◌≤◌, Bool, true, false, cond, not, ◌&&◌, eqb, ltb, [], ◌∷◌, ◌++◌, length, is_some, is_ok, Some, None, Ok, Err, Result, sym, refl, ap, ◌∙◌, subst, arith}
-use Rattle.std.proofs.lemmas.Bool.{eqb-true, ne_eqb, lt-ltb, cond_true, cond_false}
+use Rattle.std.proofs.lemmas.Bool.{eqb-true, ne_eqb, lt-ltb, cond-true, cond-false}
 use Rattle.std.proofs.lemmas.Bool.Decides.{nat_tests}
 use Rattle.protocol.specs.declared.sites.Site.{Site}
 use Rattle.protocol.specs.declared.messages.Vote.TheVariants.{Yes, No}
@@ -79,10 +79,10 @@ module _ {P : Type 0} (v : LineView P) (h : History P) (g : Good v h) (x : ℕ) 
   both y z Q a b = go (eqb x y) (same_site s z) refl refl
     where
       go : (c e : Bool) → eqb x y ≡ c → same_site s z ≡ e → Q (at (cond c joins (h.seen.transaction y)).joined z) (cond e (with (h.life s) x works) (h.life z) y)
-      go true true u k = subst (λ j. Q j (with (h.life s) x works y)) (sym (put_at_lem (h.seen.transaction x).joined s true z ∙ cond_true (same_site s z) true (at (h.seen.transaction x).joined z) k))
-          (subst (Q true) (sym (cond_true (eqb x y) works (h.life s y) u)) (a (eqb-true x y u) (site_is s z k)))
-      go true false u k = subst (λ j. Q j (h.life z y)) (sym (put_at_lem (h.seen.transaction x).joined s true z ∙ (cond_false (same_site s z) true (at (h.seen.transaction x).joined z) k ∙ ap (λ n. at (h.seen.transaction n).joined z) (eqb-true x y u)))) b
-      go false true u k = subst (Q (at (h.seen.transaction y).joined z)) (sym (cond_false (eqb x y) works (h.life s y) u ∙ ap (λ w. h.life w y) (site_is s z k))) b
+      go true true u k = subst (λ j. Q j (with (h.life s) x works y)) (sym (put_at_lem (h.seen.transaction x).joined s true z ∙ cond-true (same_site s z) true (at (h.seen.transaction x).joined z) k))
+          (subst (Q true) (sym (cond-true (eqb x y) works (h.life s y) u)) (a (eqb-true x y u) (site_is s z k)))
+      go true false u k = subst (λ j. Q j (h.life z y)) (sym (put_at_lem (h.seen.transaction x).joined s true z ∙ (cond-false (same_site s z) true (at (h.seen.transaction x).joined z) k ∙ ap (λ n. at (h.seen.transaction n).joined z) (eqb-true x y u)))) b
+      go false true u k = subst (Q (at (h.seen.transaction y).joined z)) (sym (cond-false (eqb x y) works (h.life s y) u ∙ ap (λ w. h.life w y) (site_is s z k))) b
       go false false u k = b
 
   -- what a join leaves of the transaction
@@ -124,8 +124,8 @@ module _ {P : Type 0} (v : LineView P) (h : History P) (g : Good v h) (x : ℕ) 
 
   -- the cell's table has one more
   join_is : join_done cell x ≡ with_cohorts cell (cell.cohorts ++ (joiner x cell.clock ∷ []))
-  join_is = cond_false (is_some (cohort_of cell x)) cell (with_cohorts cell (pushed 16 cell.cohorts (joiner x cell.clock))) (ap is_some new)
-      ∙ ap (λ cs. with_cohorts cell cs) (cond_true (ltb (length cell.cohorts) 16) (cell.cohorts ++ (joiner x cell.clock ∷ [])) cell.cohorts (lt-ltb (length cell.cohorts) 16 room))
+  join_is = cond-false (is_some (cohort_of cell x)) cell (with_cohorts cell (pushed 16 cell.cohorts (joiner x cell.clock))) (ap is_some new)
+      ∙ ap (λ cs. with_cohorts cell cs) (cond-true (ltb (length cell.cohorts) 16) (cell.cohorts ++ (joiner x cell.clock ∷ [])) cell.cohorts (lt-ltb (length cell.cohorts) 16 room))
 
   join_table : (y : ℕ) (b : Bool) → eqb x y ≡ b → is_some (cohort_of (join_done cell x) y) ≡ cond b true (is_some (cohort_of cell y))
   join_table y b e = ap (λ c. is_some (cohort_of c y)) join_is
@@ -139,8 +139,8 @@ module _ {P : Type 0} (v : LineView P) (h : History P) (g : Good v h) (x : ℕ) 
   join_tabled z y = ap (λ c. is_some (cohort_of c y)) (put_at_lem v.cells s (join_done cell x) z) ∙ go (eqb x y) (same_site s z) refl refl
     where
       go : (b c : Bool) → eqb x y ≡ b → same_site s z ≡ c → is_some (cohort_of (cond c (join_done cell x) (at v.cells z)) y) ≡ (h.live y && at (cond b joins (h.seen.transaction y)).joined z)
-      go true true u k = join_table y true u ∙ sym (ap (λ n. h.live n && at joins.joined z) (sym (eqb-true x y u)) ∙ (ap (λ b. b && at joins.joined z) l ∙ (put_at_lem (h.seen.transaction x).joined s true z ∙ cond_true (same_site s z) true (at (h.seen.transaction x).joined z) k)))
-      go true false u k = g.tabled z y ∙ ap (λ b. h.live y && b) (sym (put_at_lem (h.seen.transaction x).joined s true z ∙ (cond_false (same_site s z) true (at (h.seen.transaction x).joined z) k ∙ ap (λ n. at (h.seen.transaction n).joined z) (eqb-true x y u))))
+      go true true u k = join_table y true u ∙ sym (ap (λ n. h.live n && at joins.joined z) (sym (eqb-true x y u)) ∙ (ap (λ b. b && at joins.joined z) l ∙ (put_at_lem (h.seen.transaction x).joined s true z ∙ cond-true (same_site s z) true (at (h.seen.transaction x).joined z) k)))
+      go true false u k = g.tabled z y ∙ ap (λ b. h.live y && b) (sym (put_at_lem (h.seen.transaction x).joined s true z ∙ (cond-false (same_site s z) true (at (h.seen.transaction x).joined z) k ∙ ap (λ n. at (h.seen.transaction n).joined z) (eqb-true x y u))))
       go false true u k = join_table y false u ∙ subst (λ w. is_some (cohort_of cell y) ≡ (h.live y && at (h.seen.transaction y).joined w)) (site_is s z k) (g.tabled s y)
       go false false u k = g.tabled z y
 
@@ -154,7 +154,7 @@ module _ {P : Type 0} (v : LineView P) (h : History P) (g : Good v h) (x : ℕ) 
     cells = kept_lives v h s (join_done cell x) x works g (kept_join cell (h.life s) (log_at h.seen s) x (g.cells s) new unknown room);
     tabled = join_tabled;
     sound = sound_join;
-    unborn = λ y k. ((g.unborn y k).0, let b = born v h x g l in cond_false (eqb x y) joins (h.seen.transaction y) (ne_eqb x y (λ u. omega (arith, u, b, k))) ∙ (g.unborn y k).1);
+    unborn = λ y k. ((g.unborn y k).0, let b = born v h x g l in cond-false (eqb x y) joins (h.seen.transaction y) (ne_eqb x y (λ u. omega (arith, u, b, k))) ∙ (g.unborn y k).1);
   }
 
 abbrev or_there : Bool → Result Unit CellFault

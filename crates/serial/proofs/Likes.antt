@@ -1,7 +1,7 @@
 -- The tables of a cell stay like a cell of functions over each event.
 use Rattle.std.proofs.Common.{◌≡◌, ℕ, ◌<◌, ◌≤◌, max, Bool, true, false, cond, ◌&&◌, ◌||◌, eqb, ltb, List, [], ◌∷◌, ◌++◌, is_some, is_ok, Some, None, Option, sym, refl, ap, ◌∙◌, subst, arith}
 use mathlib.Core.Path.{fun_ext}
-use Rattle.std.proofs.lemmas.Bool.{eqb-true, eq-eqb, ne_eqb, lt-ltb, cond_true, cond_false}
+use Rattle.std.proofs.lemmas.Bool.{eqb-true, eq-eqb, ne_eqb, lt-ltb, cond-true, cond-false}
 use Rattle.std.proofs.lemmas.Bool.Decides.{nat_tests}
 use Rattle.items.specs.Sets.{has}
 use Rattle.items.proofs.Members.{has_none, has_inserted, meeting_at}
@@ -42,8 +42,8 @@ each_life : (cs : List Cohort) (x : ℕ) (e : Event) (c d : Cohort) (life : ℕ 
     ((y : ℕ) → At (find_in tx_of cs y) (life y) (rd y) (wr y)) → (y : ℕ) → At (find_in tx_of (stepped tx_of step_to cs x e) y) (with life x p y) (rd y) (wr y)
 each_life cs x e c d life rd wr p f g here each =
     each_after cs x e c (with life x p) rd wr f
-    (subst (λ q. At (Some (step_to c e)) q (rd x) (wr x)) (sym (cond_true (eqb x x) p (life x) (eq-eqb x x refl))) (subst (λ z. At (Some z) p (rd x) (wr x)) (sym g) here))
-    (λ y ne. subst (λ q. At (find_in tx_of cs y) q (rd y) (wr y)) (sym (cond_false (eqb x y) p (life y) (ne_eqb x y ne))) (each y))
+    (subst (λ q. At (Some (step_to c e)) q (rd x) (wr x)) (sym (cond-true (eqb x x) p (life x) (eq-eqb x x refl))) (subst (λ z. At (Some z) p (rd x) (wr x)) (sym g) here))
+    (λ y ne. subst (λ q. At (find_in tx_of cs y) q (rd y) (wr y)) (sym (cond-false (eqb x y) p (life y) (ne_eqb x y ne))) (each y))
 
 -- one more item held by x
 abbrev more : (ℕ → ℕ → Bool) → ℕ → ℕ → ℕ → ℕ → Bool

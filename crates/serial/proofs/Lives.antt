@@ -1,6 +1,6 @@
 -- A cell as functions of the transaction and the item, and what holds of it at any time. The tables of a cell are like such a cell
 -- (`Like`), whose lives and logs are those that were seen.
-use Rattle.std.proofs.Common.{◌≡◌, ℕ, ◌<◌, ◌≤◌, Bool, true, false, cond, not, ◌&&◌, ◌||◌, eqb, ltb, ◌⊎◌, List, [], ◌∷◌, ◌++◌, is_some, Some, None, Option}
+use Rattle.std.proofs.Common.{◌≡◌, ℕ, ◌<◌, ◌≤◌, Bool, true, false, cond, ltb, ◌⊎◌, List, [], ◌∷◌, is_some, Some, None, Option}
 use Rattle.std.specs.Option.{option_or}
 use Rattle.items.specs.Sets.{has}
 use Rattle.table.specs.Contents.{find_in}

@@ -1,6 +1,6 @@
 -- Records found by number in a list, after an event of one of them, and with one more or one less.
 use Rattle.std.proofs.Common.{◌≡◌, ℕ, Bool, true, false, cond, eqb, List, [], ◌∷◌, ◌++◌, Some, None, Option, sym, refl, ap, ◌∙◌, subst, inl, inr, arith}
-use Rattle.std.proofs.lemmas.Bool.{eqb-true, eqb-false, ne_eqb, cases_eq, cond_true, cond_false}
+use Rattle.std.proofs.lemmas.Bool.{eqb-true, eqb-false, ne_eqb, cases_eq, cond-true, cond-false}
 use Rattle.std.proofs.lemmas.Bool.Decides.{nat_tests}
 use Rattle.table.specs.Contents.{find_in, without, stepped}
 use Rattle.serial.proofs.Lives.{Apart}
@@ -25,8 +25,8 @@ module _ {X V : Type 0} (num : X → ℕ) (next : X → V → X) (e : V) (keeps 
     where
       go : (b : Bool) → eqb (num q) x ≡ b → cond b (Some q) (find_in num rs x) ≡ Some r → (find_in num rs x ≡ Some r → find_in num (stepped num next rs x e) x ≡ Some (next r e)) →
           find_in num (cond b (next q e ∷ rs) (q ∷ stepped num next rs x e)) x ≡ Some (next r e)
-      go true t g ih = cond_true (eqb (num (next q e)) x) (Some (next q e)) (find_in num rs x) (ap (λ n. eqb n x) (keeps q) ∙ t) ∙ (let u : q ≡ r = cc in ap (λ y. Some (next y e)) u)
-      go false t g ih = cond_false (eqb (num q) x) (Some q) (find_in num (stepped num next rs x e) x) t ∙ ih g
+      go true t g ih = cond-true (eqb (num (next q e)) x) (Some (next q e)) (find_in num rs x) (ap (λ n. eqb n x) (keeps q) ∙ t) ∙ (let u : q ≡ r = cc in ap (λ y. Some (next y e)) u)
+      go false t g ih = cond-false (eqb (num q) x) (Some q) (find_in num (stepped num next rs x e) x) t ∙ ih g
 
   pub find_other : (rs : List X) (x y : ℕ) → (x ≡ y → ⊥) → find_in num (stepped num next rs x e) y ≡ find_in num rs y
   find_other [] x y ne = refl
@@ -35,8 +35,8 @@ module _ {X V : Type 0} (num : X → ℕ) (next : X → V → X) (e : V) (keeps 
       go : (b : Bool) → eqb (num q) x ≡ b → find_in num (stepped num next rs x e) y ≡ find_in num rs y → find_in num (cond b (next q e ∷ rs) (q ∷ stepped num next rs x e)) y ≡ find_in num (q ∷ rs) y
       go true t ih =
           let n = eqb-true (num q) x t in
-          cond_false (eqb (num (next q e)) y) (Some (next q e)) (find_in num rs y) (ne_eqb (num (next q e)) y (λ h. ne (sym n ∙ (sym (keeps q) ∙ h))))
-          ∙ sym (cond_false (eqb (num q) y) (Some q) (find_in num rs y) (ne_eqb (num q) y (λ h. ne (sym n ∙ h))))
+          cond-false (eqb (num (next q e)) y) (Some (next q e)) (find_in num rs y) (ne_eqb (num (next q e)) y (λ h. ne (sym n ∙ (sym (keeps q) ∙ h))))
+          ∙ sym (cond-false (eqb (num q) y) (Some q) (find_in num rs y) (ne_eqb (num q) y (λ h. ne (sym n ∙ h))))
       go false t ih = ap (λ o. cond (eqb (num q) y) (Some q) o) ih
 
   -- what is found after it
@@ -83,7 +83,7 @@ apart_end num (q ∷ rs) r e a = go (eqb (num q) (num r)) refl e (λ f. apart_en
     go : (b : Bool) → eqb (num q) (num r) ≡ b → cond b (Some q) (find_in num rs (num r)) ≡ None → (find_in num rs (num r) ≡ None → Apart num (rs ++ (r ∷ []))) → Apart num (q ∷ (rs ++ (r ∷ [])))
     go true t f ih = absurd (not_some q (sym f))
     go false t f ih = (
-      find_end num rs r (num q) f ∙ (cond_false (eqb (num r) (num q)) (Some r) (find_in num rs (num q)) (ne_eqb (num r) (num q) (λ h. eqb-false (num q) (num r) t (sym h))) ∙ a.0),
+      find_end num rs r (num q) f ∙ (cond-false (eqb (num r) (num q)) (Some r) (find_in num rs (num q)) (ne_eqb (num r) (num q) (λ h. eqb-false (num q) (num r) t (sym h))) ∙ a.0),
       ih f,
     )
 
@@ -99,11 +99,11 @@ find_cut num (q ∷ rs) x y a = go (eqb (num q) x) (eqb x y) refl refl (find_cut
     go : (b c : Bool) → eqb (num q) x ≡ b → eqb x y ≡ c → find_in num (without num rs x) y ≡ cond (eqb x y) None (find_in num rs y) →
         find_in num (cond b rs (q ∷ without num rs x)) y ≡ cond c None (cond (eqb (num q) y) (Some q) (find_in num rs y))
     go true true t u ih = ap (λ n. find_in num rs n) (sym (eqb-true x y u) ∙ sym (eqb-true (num q) x t)) ∙ a.0
-    go true false t u ih = sym (cond_false (eqb (num q) y) (Some q) (find_in num rs y) (ne_eqb (num q) y (λ h. eqb-false x y u (sym (eqb-true (num q) x t) ∙ h))))
+    go true false t u ih = sym (cond-false (eqb (num q) y) (Some q) (find_in num rs y) (ne_eqb (num q) y (λ h. eqb-false x y u (sym (eqb-true (num q) x t) ∙ h))))
     go false true t u ih =
-        cond_false (eqb (num q) y) (Some q) (find_in num (without num rs x) y) (ne_eqb (num q) y (λ h. eqb-false (num q) x t (h ∙ sym (eqb-true x y u))))
-        ∙ (ih ∙ cond_true (eqb x y) None (find_in num rs y) u)
-    go false false t u ih = ap (λ o. cond (eqb (num q) y) (Some q) o) (ih ∙ cond_false (eqb x y) None (find_in num rs y) u)
+        cond-false (eqb (num q) y) (Some q) (find_in num (without num rs x) y) (ne_eqb (num q) y (λ h. eqb-false (num q) x t (h ∙ sym (eqb-true x y u))))
+        ∙ (ih ∙ cond-true (eqb x y) None (find_in num rs y) u)
+    go false false t u ih = ap (λ o. cond (eqb (num q) y) (Some q) o) (ih ∙ cond-false (eqb x y) None (find_in num rs y) u)
 
 pub apart_cut : {X : Type 0} (num : X → ℕ) (rs : List X) (x : ℕ) → Apart num rs → Apart num (without num rs x)
 apart_cut num [] x a = tt

@@ -1,6 +1,6 @@
 -- A delivered report: the coordinator records it, may decide, and may close the transaction.
 use Rattle.std.proofs.Common.{◌≡◌, ℕ, Bool, true, false, cond, not, List, ◌++◌, is_some, Some, Ok, Err, Result, sym, refl, ap, ◌∙◌, subst, inl, inr, arith}
-use Rattle.std.proofs.lemmas.Bool.{cases_Bool, cond_true, cond_false}
+use Rattle.std.proofs.lemmas.Bool.{cases_Bool, cond-true, cond-false}
 use Rattle.protocol.specs.declared.sites.Site.{Site}
 use Rattle.protocol.specs.declared.messages.Range.{Range}
 use Rattle.protocol.specs.declared.messages.Vote.TheVariants.{Yes, No}
@@ -63,7 +63,7 @@ module _ {P : Type 0} (v : LineView P) (h : History P) (g : Good v h) (x : ℕ) 
       let w : LineView P = coordinated v x e in (
         turned h x n (h.seen.post ++ ms),
         refl,
-        subst (λ u. Good u (turned h x n (h.seen.post ++ ms))) (sym (cond_true (fits w (how_many tx.joined)) (sending w ms) w f))
+        subst (λ u. Good u (turned h x n (h.seen.post ++ ms))) (sym (cond-true (fits w (how_many tx.joined)) (sending w ms) w f))
             (good_turn v h x e n (v.post ++ ms) (h.seen.post ++ ms) g l q jn (ap (λ y. y ++ ms) g.post) (room_for v ms (how_many tx.joined) (length_orders tx.joined x (Decide k)) f) so),
       )
 
@@ -84,37 +84,37 @@ module _ {P : Type 0} (v : LineView P) (h : History P) (g : Good v h) (x : ℕ) 
         (λ n q. let k : r ≡ n = cc in m.1 yet ∙ ap (λ y. Prepared y.earliest y.latest) k) (λ z n q. g.sound.cast x z n q yet)
 
     to_count : step_to tx (Receive s (Cast (Yes r))) ≡ counted more
-    to_count = cond_true (awaits tx tx.stage s) (counted more) tx w
+    to_count = cond-true (awaits tx tx.stage s) (counted more) tx w
 
     tally : all_voted more ≡ true → (k : Decision) → tallied more.votes ≡ k → Heard (Cast (Yes r)) (decision_answer k)
     tally a (Commit t) e f = announces (Receive s (Cast (Yes r))) (at_stage more (Decided (Commit t))) (Commit t)
-        (to_count ∙ (cond_true (all_voted more) (at_stage more (Decided (tallied more.votes))) more a ∙ ap (λ k. at_stage more (Decided k)) e)) (λ z. refl) f
+        (to_count ∙ (cond-true (all_voted more) (at_stage more (Decided (tallied more.votes))) more a ∙ ap (λ k. at_stage more (Decided k)) e)) (λ z. refl) f
         (sound_commit h g.sound x yet more (λ z. refl) (λ z. refl) cast t a e)
     tally a Abort e f = announces (Receive s (Cast (Yes r))) (at_stage more (Decided Abort)) Abort
-        (to_count ∙ (cond_true (all_voted more) (at_stage more (Decided (tallied more.votes))) more a ∙ ap (λ k. at_stage more (Decided k)) e)) (λ z. refl) f
+        (to_count ∙ (cond-true (all_voted more) (at_stage more (Decided (tallied more.votes))) more a ∙ ap (λ k. at_stage more (Decided k)) e)) (λ z. refl) f
         (sound_abort h g.sound x yet more (λ z. refl) (λ z. refl) cast)
 
     count : (b : Bool) → all_voted more ≡ b → Heard (Cast (Yes r)) (count_answer more)
-    count true a = subst (Heard (Cast (Yes r))) (sym (cond_true (all_voted more) (decision_answer (tallied more.votes)) Noted a)) (tally a (tallied more.votes) refl)
-    count false a = subst (Heard (Cast (Yes r))) (sym (cond_false (all_voted more) (decision_answer (tallied more.votes)) Noted a))
+    count true a = subst (Heard (Cast (Yes r))) (sym (cond-true (all_voted more) (decision_answer (tallied more.votes)) Noted a)) (tally a (tallied more.votes) refl)
+    count false a = subst (Heard (Cast (Yes r))) (sym (cond-false (all_voted more) (decision_answer (tallied more.votes)) Noted a))
         (λ f. (
           turned h x more h.seen.post,
           refl,
-          noted_good (Receive s (Cast (Yes r))) more (to_count ∙ cond_false (all_voted more) (at_stage more (Decided (tallied more.votes))) more a) (λ z. refl)
+          noted_good (Receive s (Cast (Yes r))) more (to_count ∙ cond-false (all_voted more) (at_stage more (Decided (tallied more.votes))) more a) (λ z. refl)
               (sound_record h g.sound x yet more (λ z. refl) (λ z. refl) cast refl),
         ))
 
   yes_heard : (r : Range) → Means tx.stage (h.life s x) (ToCoordinator (Cast (Yes r))) → (b : Bool) → awaits tx tx.stage s ≡ b → Heard (Cast (Yes r)) (heard_answer tx s (Cast (Yes r)))
-  yes_heard r m true w = subst (Heard (Cast (Yes r))) (sym (cond_true (awaits tx tx.stage s) (count_answer (with_vote tx s r)) Stale w)) (count r m w (all_voted (with_vote tx s r)) refl)
-  yes_heard r m false w = subst (Heard (Cast (Yes r))) (sym (cond_false (awaits tx tx.stage s) (count_answer (with_vote tx s r)) Stale w))
-      (λ f. still (Receive s (Cast (Yes r))) (cond_false (awaits tx tx.stage s) (counted (with_vote tx s r)) tx w))
+  yes_heard r m true w = subst (Heard (Cast (Yes r))) (sym (cond-true (awaits tx tx.stage s) (count_answer (with_vote tx s r)) Stale w)) (count r m w (all_voted (with_vote tx s r)) refl)
+  yes_heard r m false w = subst (Heard (Cast (Yes r))) (sym (cond-false (awaits tx tx.stage s) (count_answer (with_vote tx s r)) Stale w))
+      (λ f. still (Receive s (Cast (Yes r))) (cond-false (awaits tx tx.stage s) (counted (with_vote tx s r)) tx w))
 
   no_heard : (b : Bool) → awaits tx tx.stage s ≡ b → Heard (Cast No) (heard_answer tx s (Cast No))
   no_heard true w = let yet = awaits_yet tx tx.stage s w in
-      subst (Heard (Cast No)) (sym (cond_true (awaits tx tx.stage s) Aborted Stale w))
-      (λ f. announces (Receive s (Cast No)) (at_stage tx (Decided Abort)) Abort (cond_true (awaits tx tx.stage s) (at_stage tx (Decided Abort)) tx w) (λ z. refl) f
+      subst (Heard (Cast No)) (sym (cond-true (awaits tx tx.stage s) Aborted Stale w))
+      (λ f. announces (Receive s (Cast No)) (at_stage tx (Decided Abort)) Abort (cond-true (awaits tx tx.stage s) (at_stage tx (Decided Abort)) tx w) (λ z. refl) f
       (sound_abort h g.sound x yet tx (λ z. refl) (λ z. refl) (λ z n q. g.sound.cast x z n q yet)))
-  no_heard false w = subst (Heard (Cast No)) (sym (cond_false (awaits tx tx.stage s) Aborted Stale w)) (λ f. still (Receive s (Cast No)) (cond_false (awaits tx tx.stage s) (at_stage tx (Decided Abort)) tx w))
+  no_heard false w = subst (Heard (Cast No)) (sym (cond-false (awaits tx tx.stage s) Aborted Stale w)) (λ f. still (Receive s (Cast No)) (cond-false (awaits tx tx.stage s) (at_stage tx (Decided Abort)) tx w))
 
   -- an acknowledgement that is new
   module _ (m : is_over (h.life s x) ≡ true) (w : at tx.acks s ≡ false) where
@@ -128,7 +128,7 @@ module _ {P : Type 0} (v : LineView P) (h : History P) (g : Good v h) (x : ℕ) 
     ack_sound = sound_ack h x s g.sound m
 
     ack_good : Good (coordinated v x (Receive s Ack)) after
-    ack_good = noted_good (Receive s Ack) acked (cond_false (at tx.acks s) tx acked w) (λ z. refl) ack_sound
+    ack_good = noted_good (Receive s Ack) acked (cond-false (at tx.acks s) tx acked w) (λ z. refl) ack_sound
 
     -- all have acknowledged: it holds nothing
     free : all_acked acked ≡ true → (z : Site) → is_holding (h.life z x) ≡ false
@@ -142,8 +142,8 @@ module _ {P : Type 0} (v : LineView P) (h : History P) (g : Good v h) (x : ℕ) 
     ack_all false a f = (after, refl, ack_good)
 
   ack_heard : is_over (h.life s x) ≡ true → (b : Bool) → at tx.acks s ≡ b → Heard Ack (heard_answer tx s Ack)
-  ack_heard m true w = subst (Heard Ack) (sym (cond_true (at tx.acks s) Stale (cond (all_acked (with_ack tx s)) Closed Noted) w)) (λ f. still (Receive s Ack) (cond_true (at tx.acks s) tx (with_ack tx s) w))
-  ack_heard m false w = subst (Heard Ack) (sym (cond_false (at tx.acks s) Stale (cond (all_acked (with_ack tx s)) Closed Noted) w)) (ack_all m w (all_acked (with_ack tx s)) refl)
+  ack_heard m true w = subst (Heard Ack) (sym (cond-true (at tx.acks s) Stale (cond (all_acked (with_ack tx s)) Closed Noted) w)) (λ f. still (Receive s Ack) (cond-true (at tx.acks s) tx (with_ack tx s) w))
+  ack_heard m false w = subst (Heard Ack) (sym (cond-false (at tx.acks s) Stale (cond (all_acked (with_ack tx s)) Closed Noted) w)) (ack_all m w (all_acked (with_ack tx s)) refl)
 
   by_report : (r : Report) → Means tx.stage (h.life s x) (ToCoordinator r) → Heard r (heard_answer tx s r)
   by_report (Cast (Yes n)) m = yes_heard n m (awaits tx tx.stage s) refl

@@ -1,7 +1,7 @@
 -- One site changed, of a line's cells and of functions of the site; one place changed, of functions of the number.
 use Rattle.std.proofs.Common.{◌≡◌, ℕ, zero, suc, Bool, true, false, cond, eqb, List, [], ◌∷◌, ◌++◌, take, drop, Some, sym, refl, ap, ◌∙◌, subst, arith}
 use mathlib.Core.Path.{fun_ext}
-use Rattle.std.proofs.lemmas.Bool.{eqb-true, eqb-false, eq-eqb, cond_true, cond_both}
+use Rattle.std.proofs.lemmas.Bool.{eqb-true, eqb-false, eq-eqb, cond-true, cond_both}
 use Rattle.std.specs.List.{remove}
 use Rattle.protocol.specs.declared.sites.Site.{Site}
 use Rattle.protocol.specs.declared.sites.Site.TheVariants.{Cell0, Cell1, Cell2, Cell3}
@@ -60,7 +60,7 @@ pub with_both : {X : Type 0} (f : ℕ → X) (k : ℕ) (x : X) (n : ℕ) (Q : X 
 with_both f k x n Q a b = cond_both (eqb k n) x (f n) Q (λ e. a (eqb-true k n e)) (λ e. b (eqb-false k n e))
 
 pub with_here : {X : Type 0} (f : ℕ → X) (k : ℕ) (x : X) → with f k x k ≡ x
-with_here f k x = cond_true (eqb k k) x (f k) (eq-eqb k k refl)
+with_here f k x = cond-true (eqb k k) x (f k) (eq-eqb k k refl)
 
 pub with_self : {X : Type 0} (f : ℕ → X) (k : ℕ) (x : X) (n : ℕ) → f k ≡ x → with f k x n ≡ f n
 with_self f k x n e = with_both f k x n (λ y. y ≡ f n) (λ q. sym e ∙ ap f q) (λ q. refl)

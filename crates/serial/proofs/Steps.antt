@@ -1,6 +1,6 @@
 -- Tables of numbered records: one that steps, one taken out, one more at the end, and how many there are.
 use Rattle.std.proofs.Common.{◌≡◌, ℕ, suc, ◌<◌, ◌≤◌, Bool, true, false, cond, eqb, List, [], ◌∷◌, ◌++◌, length, is_some, Some, None, Option, sym, refl, ap, ◌∙◌, arith}
-use Rattle.std.proofs.lemmas.Bool.{eqb-true, eqb-false, eq-eqb, ne_eqb, cases_eq, cond_true, cond_false, cond_both}
+use Rattle.std.proofs.lemmas.Bool.{eqb-true, eqb-false, eq-eqb, ne_eqb, cases_eq, cond-true, cond-false, cond_both}
 use Rattle.std.proofs.lemmas.Bool.Decides.{nat_tests}
 use Rattle.table.specs.Contents.{find_in, without, stepped}
 use Rattle.serial.proofs.Lives.{Apart}
@@ -35,8 +35,8 @@ module _ {X V : Type 0} (num : X → ℕ) (next : X → V → X) (e : V) (keeps 
   find_other [] x y ne = refl
   find_other (q ∷ rs) x y ne = cond_both (eqb (num q) x) (next q e ∷ rs) (q ∷ stepped num next rs x e) (λ l. find_in num l y ≡ find_in num (q ∷ rs) y)
       (λ u. let n = eqb-true (num q) x u in
-      cond_false (eqb (num (next q e)) y) (Some (next q e)) (find_in num rs y) (ne_eqb (num (next q e)) y (λ h. ne (sym n ∙ (sym (keeps q) ∙ h))))
-      ∙ sym (cond_false (eqb (num q) y) (Some q) (find_in num rs y) (ne_eqb (num q) y (λ h. ne (sym n ∙ h)))))
+      cond-false (eqb (num (next q e)) y) (Some (next q e)) (find_in num rs y) (ne_eqb (num (next q e)) y (λ h. ne (sym n ∙ (sym (keeps q) ∙ h))))
+      ∙ sym (cond-false (eqb (num q) y) (Some q) (find_in num rs y) (ne_eqb (num q) y (λ h. ne (sym n ∙ h)))))
       (λ u. ap (λ o. cond (eqb (num q) y) (Some q) o) (find_other rs x y ne))
 
   -- the one that stepped is found
@@ -46,8 +46,8 @@ module _ {X V : Type 0} (num : X → ℕ) (next : X → V → X) (e : V) (keeps 
       let P : Bool → Type 0 = λ b. eqb (num q) x ≡ b → cond b (Some q) (find_in num rs x) ≡ Some r → find_in num (cond b (next q e ∷ rs) (q ∷ stepped num next rs x e)) x ≡ Some (next r e) in
       let all : (b : Bool) → P b = λ b. elim b as P [
         | true ↦ (λ u g. let h : q ≡ r = cc in
-            cond_true (eqb (num (next q e)) x) (Some (next q e)) (find_in num rs x) (eq-eqb (num (next q e)) x (keeps q ∙ eqb-true (num q) x u)) ∙ ap (λ y. Some (next y e)) h)
-        | false ↦ (λ u g. cond_false (eqb (num q) x) (Some q) (find_in num (stepped num next rs x e) x) u ∙ find_here rs x r g)
+            cond-true (eqb (num (next q e)) x) (Some (next q e)) (find_in num rs x) (eq-eqb (num (next q e)) x (keeps q ∙ eqb-true (num q) x u)) ∙ ap (λ y. Some (next y e)) h)
+        | false ↦ (λ u g. cond-false (eqb (num q) x) (Some q) (find_in num (stepped num next rs x e) x) u ∙ find_here rs x r g)
       ] in
       all (eqb (num q) x) refl f
 
@@ -73,8 +73,8 @@ module _ {X V : Type 0} (num : X → ℕ) (next : X → V → X) (e : V) (keeps 
   cut_stepped (q ∷ rs) x =
       let P : Bool → Type 0 = λ b. eqb (num q) x ≡ b → without num (cond b (next q e ∷ rs) (q ∷ stepped num next rs x e)) x ≡ cond b rs (q ∷ without num rs x) in
       let all : (b : Bool) → P b = λ b. elim b as P [
-        | true ↦ (λ u. cond_true (eqb (num (next q e)) x) rs (next q e ∷ without num rs x) (eq-eqb (num (next q e)) x (keeps q ∙ eqb-true (num q) x u)))
-        | false ↦ (λ u. cond_false (eqb (num q) x) (stepped num next rs x e) (q ∷ without num (stepped num next rs x e) x) u ∙ ap (λ l. q ∷ l) (cut_stepped rs x))
+        | true ↦ (λ u. cond-true (eqb (num (next q e)) x) rs (next q e ∷ without num rs x) (eq-eqb (num (next q e)) x (keeps q ∙ eqb-true (num q) x u)))
+        | false ↦ (λ u. cond-false (eqb (num q) x) (stepped num next rs x e) (q ∷ without num (stepped num next rs x e) x) u ∙ ap (λ l. q ∷ l) (cut_stepped rs x))
       ] in
       all (eqb (num q) x) refl
 
@@ -108,7 +108,7 @@ apart_end {X} num (q ∷ rs) t a e =
     let Q : Bool → Type 0 = λ b. eqb (num q) (num t) ≡ b → ◌≡◌ {A = Option X} (cond b (Some q) (find_in num rs (num t))) None → (num t ≡ num q → ⊥) × (find_in num rs (num t) ≡ None) in
     let all : (b : Bool) → Q b = λ b. elim b as Q [ true ↦ (λ u h. let z : ◌≡◌ {A = ℕ} 0 1 = cc in absurd (omega arith)) | false ↦ (λ u h. ((λ k. eqb-false (num q) (num t) u (sym k)), h)) ] in
     let k = all (eqb (num q) (num t)) refl e in
-    (find_end num rs t (num q) k.1 ∙ (cond_false (eqb (num t) (num q)) (Some t) (find_in num rs (num q)) (ne_eqb (num t) (num q) k.0) ∙ a.0), apart_end num rs t a.1 k.1)
+    (find_end num rs t (num q) k.1 ∙ (cond-false (eqb (num t) (num q)) (Some t) (find_in num rs (num q)) (ne_eqb (num t) (num q) k.0) ∙ a.0), apart_end num rs t a.1 k.1)
 
 -- one taken out
 pub find_cut : {X : Type 0} (num : X → ℕ) (rs : List X) (x y : ℕ) → Apart num rs → find_in num (without num rs x) y ≡ cond (eqb x y) None (find_in num rs y)
@@ -120,14 +120,14 @@ find_cut num (q ∷ rs) x y a =
           let Q : Bool → Type 0 = λ c. eqb x y ≡ c → find_in num rs y ≡ cond c None (cond (eqb (num q) y) (Some q) (find_in num rs y)) in
           let both : (c : Bool) → Q c = λ c. elim c as Q [
             | true ↦ (λ u. ap (λ m. find_in num rs m) (sym (eqb-true x y u) ∙ sym n) ∙ a.0)
-            | false ↦ (λ u. sym (cond_false (eqb (num q) y) (Some q) (find_in num rs y) (ne_eqb (num q) y (λ h. eqb-false x y u (sym n ∙ h)))))
+            | false ↦ (λ u. sym (cond-false (eqb (num q) y) (Some q) (find_in num rs y) (ne_eqb (num q) y (λ h. eqb-false x y u (sym n ∙ h)))))
           ] in
           both (eqb x y) refl)
       | false ↦ (λ e. ap (λ o. cond (eqb (num q) y) (Some q) o) (find_cut num rs x y a.1)
           ∙ (let n = eqb-false (num q) x e in
           let Q : Bool → Type 0 = λ c. eqb x y ≡ c → cond (eqb (num q) y) (Some q) (cond c None (find_in num rs y)) ≡ cond c None (cond (eqb (num q) y) (Some q) (find_in num rs y)) in
           let both : (c : Bool) → Q c = λ c. elim c as Q [
-            | true ↦ (λ u. cond_false (eqb (num q) y) (Some q) None (ne_eqb (num q) y (λ h. n (h ∙ sym (eqb-true x y u)))))
+            | true ↦ (λ u. cond-false (eqb (num q) y) (Some q) None (ne_eqb (num q) y (λ h. n (h ∙ sym (eqb-true x y u)))))
             | false ↦ (λ u. refl)
           ] in
           both (eqb x y) refl))
@@ -140,7 +140,7 @@ none_cut num (q ∷ rs) x y f =
     let P : Bool → Type 0 = λ b. cond b (Some q) (find_in num rs y) ≡ None → find_in num (cond (eqb (num q) x) rs (q ∷ without num rs x)) y ≡ None in
     let all : (b : Bool) → eqb (num q) y ≡ b → P b = λ b. elim b as (λ b. eqb (num q) y ≡ b → P b) [
       | true ↦ (λ u g. let z : ◌≡◌ {A = ℕ} 0 1 = cc in absurd (omega arith))
-      | false ↦ (λ u g. cond_both (eqb (num q) x) rs (q ∷ without num rs x) (λ l. find_in num l y ≡ None) (λ h. g) (λ h. cond_false (eqb (num q) y) (Some q) (find_in num (without num rs x) y) u ∙ none_cut num rs x y g))
+      | false ↦ (λ u g. cond_both (eqb (num q) x) rs (q ∷ without num rs x) (λ l. find_in num l y ≡ None) (λ h. g) (λ h. cond-false (eqb (num q) y) (Some q) (find_in num (without num rs x) y) u ∙ none_cut num rs x y g))
     ] in
     all (eqb (num q) y) refl f
 
@@ -163,14 +163,14 @@ one_less num (q ∷ ys) x h =
 other_stays : {X : Type 0} (num : X → ℕ) (ys : List X) (x y : ℕ) → (x ≡ y → ⊥) → find_in num (without num ys x) y ≡ find_in num ys y
 other_stays num [] x y ne = refl
 other_stays num (q ∷ ys) x y ne = cond_both (eqb (num q) x) ys (q ∷ without num ys x) (λ l. find_in num l y ≡ cond (eqb (num q) y) (Some q) (find_in num ys y))
-    (λ u. sym (cond_false (eqb (num q) y) (Some q) (find_in num ys y) (ne_eqb (num q) y (λ h. ne (sym (eqb-true (num q) x u) ∙ h)))))
+    (λ u. sym (cond-false (eqb (num q) y) (Some q) (find_in num ys y) (ne_eqb (num q) y (λ h. ne (sym (eqb-true (num q) x u) ∙ h)))))
     (λ u. ap (λ o. cond (eqb (num q) y) (Some q) o) (other_stays num ys x y ne))
 
 tail_found : {X : Type 0} (num : X → ℕ) (r : X) (rs : List X) (y : ℕ) → is_some (find_in num rs y) ≡ true → is_some (find_in num (r ∷ rs) y) ≡ true
 tail_found num r rs y h = let P : Bool → Type 0 = λ b. is_some (cond b (Some r) (find_in num rs y)) ≡ true in elim (eqb (num r) y) as P [ true ↦ refl | false ↦ h ]
 
 head_found : {X : Type 0} (num : X → ℕ) (r : X) (rs : List X) → is_some (find_in num (r ∷ rs) (num r)) ≡ true
-head_found num r rs = ap is_some (cond_true (eqb (num r) (num r)) (Some r) (find_in num rs (num r)) (eq-eqb (num r) (num r) refl))
+head_found num r rs = ap is_some (cond-true (eqb (num r) (num r)) (Some r) (find_in num rs (num r)) (eq-eqb (num r) (num r) refl))
 
 -- if each number of one table is in the other, the other is no shorter
 pigeon : {X Y : Type 0} (num : X → ℕ) (lab : Y → ℕ) (xs : List X) (ys : List Y) → Apart num xs → ((y : ℕ) → is_some (find_in num xs y) ≡ true → is_some (find_in lab ys y) ≡ true) → length xs ≤ length ys

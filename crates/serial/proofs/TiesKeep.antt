@@ -1,6 +1,6 @@
 -- Each change of a cell of functions keeps what versions, staged payloads and logs have to do with each other.
 use Rattle.std.proofs.Common.{◌≡◌, ℕ, ◌<◌, ◌≤◌, true, false, cond, ltb, ◌⊎◌, List, [], ◌∷◌, ◌++◌, Option, sym, refl, ap, ◌∙◌, inl, inr, arith}
-use Rattle.std.proofs.lemmas.Bool.{cases_eq, cases_Bool, cases_lt, both_ways, cond_false}
+use Rattle.std.proofs.lemmas.Bool.{cases_eq, cases_Bool, cases_lt, both_ways, cond-false}
 use Rattle.std.proofs.lemmas.Bool.Decides.{nat_tests}
 use Rattle.protocol.specs.declared.messages.Range.{Range}
 use Rattle.store.specs.Meaning.{with}
@@ -171,7 +171,7 @@ module _ {P : Type 0} (w : ℕ) (s : Image P) (log : ℕ → List (Act P)) (x n 
   -- up to the tick nothing is new
   same_before : (i t : ℕ) → (s.writes x i ≡ true → t ≤ n) → before ((with_install s x n).versions i) t ≡ before (s.versions i) t
   same_before i t h = elim (cases_Bool (s.writes x i)) [
-    | inl e ↦ (let g = new_before i t e in let le = h e in g ∙ cond_false (ltb n t) (s.staged i) (before (s.versions i) t) (grind (arith, nat_tests)))
+    | inl e ↦ (let g = new_before i t e in let le = h e in g ∙ cond-false (ltb n t) (s.staged i) (before (s.versions i) t) (grind (arith, nat_tests)))
     | inr u ↦ old_before i t u
   ]
 

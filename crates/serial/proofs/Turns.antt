@@ -1,7 +1,7 @@
 -- What happens to one transaction at the coordinator keeps what holds of the line: it turns to a new stage, joins, is
 -- acknowledged, opens or closes.
 use Rattle.std.proofs.Common.{◌≡◌, ℕ, ◌+◌, ◌<◌, ◌≤◌, Bool, true, false, cond, not, ◌&&◌, eqb, List, [], ◌∷◌, ◌++◌, length, is_some, Some, None, sym, refl, ap, ◌∙◌, subst, inl, inr, arith, length-append}
-use Rattle.std.proofs.lemmas.Bool.{eqb-true, eqb-false, ne_eqb, cases_lt, cond_true, cond_false, cond_both}
+use Rattle.std.proofs.lemmas.Bool.{eqb-true, eqb-false, ne_eqb, cases_lt, cond-true, cond-false, cond_both}
 use Rattle.protocol.specs.declared.sites.Site.{Site}
 use Rattle.protocol.specs.declared.sites.Site.TheVariants.{Cell0, Cell1, Cell2, Cell3}
 use Rattle.protocol.specs.declared.sites.PerSite.{PerSite}
@@ -37,7 +37,7 @@ use Rattle.serial.proofs.Steps.{length_stepped, find_other, find_here, apart_ste
 
 -- what is live is in the table as it was seen
 pub there : {P : Type 0} (v : LineView P) (h : History P) (x : ℕ) → Good v h → h.live x ≡ true → transaction_of v x ≡ Some (h.seen.transaction x)
-there v h x g l = g.transactions x ∙ cond_true (h.live x) (Some (h.seen.transaction x)) None l
+there v h x g l = g.transactions x ∙ cond-true (h.live x) (Some (h.seen.transaction x)) None l
 
 pub born : {P : Type 0} (v : LineView P) (h : History P) (x : ℕ) → Good v h → h.live x ≡ true → x ≤ v.opens
 born v h x g l = elim (cases_lt v.opens x) [ inl a ↦ absurd (let z = (g.unborn x a).0 in grind (arith, z, l)) | inr b ↦ b ]
@@ -126,7 +126,7 @@ stepped_as {P} v h x e n g l q y = go (eqb x y) refl
   where
     go : (b : Bool) → eqb x y ≡ b → find_in number_in (stepped number_in step_to v.transactions x e) y ≡ cond (h.live y) (Some (cond b n (h.seen.transaction y))) None
     go true u = subst (λ k. find_in number_in (stepped number_in step_to v.transactions x e) k ≡ cond (h.live k) (Some n) None) (eqb-true x y u)
-        (find_here number_in step_to e (same_number e) v.transactions x (h.seen.transaction x) (there v h x g l) ∙ (ap (λ k. Some k) q ∙ sym (cond_true (h.live x) (Some n) None l)))
+        (find_here number_in step_to e (same_number e) v.transactions x (h.seen.transaction x) (there v h x g l) ∙ (ap (λ k. Some k) q ∙ sym (cond-true (h.live x) (Some n) None l)))
     go false u = find_other number_in step_to e (same_number e) v.transactions x y (eqb-false x y u) ∙ g.transactions y
 
 pub good_turn : {P : Type 0} (v : LineView P) (h : History P) (x : ℕ) (e : Event) (n : Transaction) (ps ms : List Message) → Good v h → h.live x ≡ true → step_to (h.seen.transaction x) e ≡ n →
@@ -141,7 +141,7 @@ good_turn v h x e n ps ms g l q jn p li s = record {
   tabled = λ z y. with_both h.seen.transaction x n y (λ k. is_some (cohort_of (at v.cells z) y) ≡ (h.live y && at k.joined z))
       (λ u. subst (λ k. is_some (cohort_of (at v.cells z) k) ≡ (h.live k && at n.joined z)) u (g.tabled z x ∙ ap (λ b. h.live x && b) (sym (jn z)))) (λ _. g.tabled z y);
   sound = s;
-  unborn = λ y k. ((g.unborn y k).0, let b = born v h x g l in cond_false (eqb x y) n (h.seen.transaction y) (ne_eqb x y (λ u. omega (arith, u, b, k))) ∙ (g.unborn y k).1);
+  unborn = λ y k. ((g.unborn y k).0, let b = born v h x g l in cond-false (eqb x y) n (h.seen.transaction y) (ne_eqb x y (λ u. omega (arith, u, b, k))) ∙ (g.unborn y k).1);
 }
 
 -- an acknowledgement recorded
@@ -199,7 +199,7 @@ pub good_open : {P : Type 0} (v : LineView P) (h : History P) (x : ℕ) → Good
     Good (record { cells = v.cells; transactions = v.transactions ++ (opened x ∷ []); post = v.post; opens = x }) (opened_as h x)
 good_open {P} v h x g e room =
     let u = g.unborn x (omega (arith, e)) in
-    let none : transaction_of v x ≡ None = g.transactions x ∙ cond_false (h.live x) (Some (h.seen.transaction x)) None u.0 in
+    let none : transaction_of v x ≡ None = g.transactions x ∙ cond-false (h.live x) (Some (h.seen.transaction x)) None u.0 in
     record {
       post = g.post;
       transactions = λ y. find_end number_in v.transactions (opened x) y none

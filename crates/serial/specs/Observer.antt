@@ -1,13 +1,11 @@
 -- What an observer knows who is told each call with its answer, and nothing of the line's records. It forgets nothing.
-use Rattle.std.specs.Prelude.{ℕ, Bool, true, false, cond, ◌&&◌, ◌||◌, List, [], ◌∷◌, ◌++◌, Some, None, Option, ◌==◌}
+use Rattle.std.specs.Prelude.{ℕ, Bool, true, false, cond, ◌||◌, List, [], ◌∷◌, ◌++◌, Some, None, Option, ◌==◌}
 use Rattle.std.specs.List.{remove}
 use Rattle.protocol.specs.declared.sites.Site.{Site}
 use Rattle.protocol.specs.declared.messages.Vote.TheVariants.{Yes, No}
-use Rattle.protocol.specs.declared.messages.Decision.{Decision}
 use Rattle.protocol.specs.declared.messages.Decision.TheVariants.{Commit, Abort}
 use Rattle.protocol.specs.declared.messages.Order.{Order}
 use Rattle.protocol.specs.declared.messages.Order.TheVariants.{Prepare, Decide}
-use Rattle.protocol.specs.declared.messages.Report.{Report}
 use Rattle.protocol.specs.declared.messages.Report.TheVariants.{Cast, Ack}
 use Rattle.protocol.specs.declared.messages.Body.{Body}
 use Rattle.protocol.specs.declared.messages.Body.TheVariants.{ToCell, ToCoordinator}

@@ -1,7 +1,6 @@
 -- Serial order, of what an observer saw and of the newest payloads that the stores answer.
 use Rattle.std.specs.Prelude.{◌≡◌, ℕ, ◌≤◌, Bool, true, false, cond, ◌&&◌, ◌||◌, List, [], ◌∷◌, Some, None, Option, ◌==◌, ◌≢◌}
 use Rattle.protocol.specs.declared.sites.Site.{Site}
-use Rattle.protocol.specs.declared.messages.Decision.{Decision}
 use Rattle.protocol.specs.declared.messages.Decision.TheVariants.{Commit, Abort}
 use Rattle.protocol.specs.declared.answers.Stage.{Stage}
 use Rattle.protocol.specs.declared.answers.Stage.TheVariants.{Open, Polling, Decided}

@@ -1,4 +1,6 @@
 // Serial order, and other laws, over every list of calls of a line.
+#![tactic(auto)]
+
 ghost use Rattle.serial.specs.Runs.{AlwaysSerial};
 ghost use Rattle.serial.specs.Laws.{AlwaysOrdered, AlwaysBounded, AlwaysVoted, RefusalsKeep};
 

@@ -1,20 +1,20 @@
 -- A meaning that changes at one item, and the rows that it then uses.
-use Rattle.std.proofs.Common.{◌≡◌, ℕ, zero, suc, ◌+◌, ◌<◌, ◌≤◌, Bool, true, false, cond, eqb, ◌⊎◌, List, [], length, None, Option, sym, refl, ap, ◌∙◌, subst, inl, inr, arith}
+use Rattle.std.proofs.Common.{◌≡◌, ℕ, zero, suc, ◌+◌, ◌<◌, ◌≤◌, eqb, List, [], length, None, Option, refl, ap, ◌∙◌, subst, inl, inr, arith}
 use mathlib.Core.Path.{fun_ext}
-use Rattle.std.proofs.lemmas.Bool.{cond_true, cond_false, eq-eqb, ne_eqb}
+use Rattle.std.proofs.lemmas.Bool.{cond-true, cond-false, eq-eqb, ne_eqb}
 use Rattle.std.proofs.lemmas.Bool.Decides.{eqb_tells}
 use Rattle.store.specs.declared.Version.{Version}
 use Rattle.store.specs.Meaning.{with, used, held}
 
 pub with_same : {X : Type 0} (f : ℕ → X) (i : ℕ) (x : X) → with f i x i ≡ x
-with_same f i x = cond_true (eqb i i) x (f i) (eq-eqb i i refl)
+with_same f i x = cond-true (eqb i i) x (f i) (eq-eqb i i refl)
 
 pub with_other : {X : Type 0} (f : ℕ → X) (i k : ℕ) (x : X) → (i ≡ k → ⊥) → with f i x k ≡ f k
-with_other f i k x h = cond_false (eqb i k) x (f k) (ne_eqb i k h)
+with_other f i k x h = cond-false (eqb i k) x (f k) (ne_eqb i k h)
 
 pub with_self : {X : Type 0} (f : ℕ → X) (i : ℕ) (x : X) → x ≡ f i → with f i x ≡ f
 with_self f i x e =
-    fun_ext (λ k. elim (eqb_tells i k) [ inl w ↦ cond_true (eqb i k) x (f k) w.0 ∙ (e ∙ ap f w.1) | inr w ↦ cond_false (eqb i k) x (f k) w.0 ])
+    fun_ext (λ k. elim (eqb_tells i k) [ inl w ↦ cond-true (eqb i k) x (f k) w.0 ∙ (e ∙ ap f w.1) | inr w ↦ cond-false (eqb i k) x (f k) w.0 ])
 
 used_below : {P : Type 0} (v : ℕ → List (Version P)) (s : ℕ → Option P) (i : ℕ) (a : List (Version P)) (b : Option P) (n : ℕ) → n ≤ i →
     used (with v i a) (with s i b) n ≡ used v s n

@@ -1,7 +1,7 @@
 -- A row of versions that grows at its end: the newest one, and rising times.
-use Rattle.std.proofs.Common.{◌≡◌, Bool, true, false, cond, ltb, List, [], ◌∷◌, ◌++◌, Some, Option, refl, ◌∙◌}
+use Rattle.std.proofs.Common.{◌≡◌, Bool, true, false, cond, ltb, List, [], ◌∷◌, ◌++◌, Some, refl, ◌∙◌}
 use borrow.Author.Tests.{clash}
-use Rattle.std.proofs.lemmas.Bool.{cond_true}
+use Rattle.std.proofs.lemmas.Bool.{cond-true}
 use Rattle.store.specs.declared.Version.{Version}
 use Rattle.store.specs.Meaning.{last_of, later, rising, above}
 
@@ -15,7 +15,7 @@ cond_parts true a h = (refl, h)
 cond_parts false a h = (h, absurd (clash h))
 
 cond_from : (b a : Bool) → b ≡ true → a ≡ true → cond b a false ≡ true
-cond_from b a h e = cond_true b a false h ∙ e
+cond_from b a h e = cond-true b a false h ∙ e
 
 above_grow : {P : Type 0} (x : Version P) (xs : List (Version P)) (v : Version P) → above x.time xs ≡ true →
     later (last_of (x ∷ xs)) v.time ≡ true → above x.time (xs ++ (v ∷ [])) ≡ true

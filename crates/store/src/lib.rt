@@ -1,5 +1,7 @@
 // A store, known by its meaning alone: for each item a row of versions with rising times and at most one staged payload, and a
 // capacity in rows. specs/Meaning.antt says what each call answers and leaves.
+#![tactic(auto)]
+
 ghost use Rattle.std.specs.Prelude.{◌≡◌, ℕ, ◌≤◌, true, List, [], is_ok, if◌then◌else◌, Some, None, Option};
 ghost use Rattle.store.specs.declared.Version.{Version};
 ghost use Rattle.store.specs.Meaning.{with, used, rising, newest_answer, staged_answer, stage_answer, unstage_answer, install_answer, grown, later as later_than};
@@ -31,7 +33,7 @@ pub enum Unmade {
     ItemCount,
 }
 
-// A number of items that the type fixes. A bare `usize` constant of a trait has no value in proofs; one of this type has.
+// A number of items that the type fixes, and that proofs can read.
 #[derive(Clone, Copy)]
 pub struct Items<const N: usize> {
     pub count: usize,

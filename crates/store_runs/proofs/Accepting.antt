@@ -1,5 +1,5 @@
 -- What an accepted call had, and that a refused one leaves all as it was.
-use Rattle.std.proofs.Common.{◌≡◌, ℕ, ◌<◌, Bool, true, false, cond, ltb, List, is_some, is_ok, Some, None, Ok, Err, Option, Result, sym, refl, ap, ◌∙◌}
+use Rattle.std.proofs.Common.{◌≡◌, ℕ, ◌<◌, Bool, true, false, cond, ltb, List, is_some, is_ok, Some, None, Ok, Err, Option, Result, refl, ap}
 use borrow.Author.Tests.{clash}
 use Rattle.std.proofs.lemmas.Bool.{ltb-true}
 use Rattle.store.specs.declared.Version.{Version}

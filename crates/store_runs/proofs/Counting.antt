@@ -1,5 +1,5 @@
 -- The rows in use after a call.
-use Rattle.std.proofs.Common.{◌≡◌, ℕ, ◌+◌, ◌-◌, ◌<◌, ◌≤◌, Bool, true, false, cond, List, [], ◌∷◌, ◌++◌, length, is_some, is_ok, Some, None, Option, sym, refl, ap, ◌∙◌, arith, length-append}
+use Rattle.std.proofs.Common.{◌≡◌, ℕ, ◌+◌, ◌-◌, ◌<◌, ◌≤◌, Bool, true, false, cond, List, [], ◌∷◌, length, is_some, is_ok, Some, None, Option, refl, ap, ◌∙◌, arith, length-append}
 use borrow.Author.Tests.{clash}
 use Rattle.store.specs.declared.Version.{Version}
 use Rattle.store.specs.Meaning.{with, used, held, grown, stage_answer, unstage_answer, install_answer}
@@ -7,7 +7,7 @@ use Rattle.store.proofs.Changing.{with_self, used_with, used_none}
 use Rattle.store_runs.specs.declared.StoreCall.{StoreCall}
 use Rattle.store_runs.specs.declared.StoreCall.TheVariants.{Newest, Staged, Stage, Unstage, Install, Clear}
 use Rattle.store_runs.specs.Ledger.{used_rows, free_rows, rows_taken, rows_given}
-use Rattle.store_runs.specs.Plain.{Plain, plain, after_call}
+use Rattle.store_runs.specs.Plain.{Plain, after_call}
 use Rattle.store_runs.proofs.Accepting.{stage_within, unstage_within, install_within}
 
 -- the staged payload of one item is exchanged

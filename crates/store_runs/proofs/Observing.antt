@@ -1,5 +1,5 @@
 -- An observer of a run from a cleared store knows what is staged, and the newest version.
-use Rattle.std.proofs.Common.{◌≡◌, ℕ, Bool, true, false, cond, eqb, List, [], ◌∷◌, ◌++◌, is_some, is_ok, Some, None, Ok, Err, Option, Result, sym, refl, ap, ◌∙◌}
+use Rattle.std.proofs.Common.{◌≡◌, ℕ, Bool, true, false, cond, eqb, List, [], ◌∷◌, is_some, is_ok, Some, None, Ok, Err, Option, Result, sym, refl, ap, ◌∙◌}
 use borrow.Author.Tests.{clash}
 use Rattle.std.proofs.lemmas.Bool.{eqb-true}
 use Rattle.store.specs.declared.Version.{Version}
@@ -10,8 +10,8 @@ use Rattle.store_runs.specs.declared.StoreCall.{StoreCall}
 use Rattle.store_runs.specs.declared.StoreCall.TheVariants.{Newest, Staged, Stage, Unstage, Install, Clear}
 use Rattle.store_runs.specs.declared.StoreAnswer.{StoreAnswer}
 use Rattle.store_runs.specs.Ledger.{is_refused}
-use Rattle.store_runs.specs.Observer.{Seen, unseen, stamped, told, sees, observed, KnownFrom}
-use Rattle.store_runs.specs.Plain.{Plain, plain, cleared, version_answer, payload_answer, change_answer, answer_to, after_call, answers_to, after_all}
+use Rattle.store_runs.specs.Observer.{Seen, unseen, stamped, sees, observed, KnownFrom}
+use Rattle.store_runs.specs.Plain.{Plain, plain, cleared, change_answer, answer_to, after_call, answers_to, after_all}
 use Rattle.store_runs.proofs.Accepting.{install_within}
 
 -- the observer's view of an item is the item's

@@ -1,5 +1,5 @@
 -- An observer, who sees calls and answers alone: what it takes to be staged for an item, and to be its newest version.
-use Rattle.std.specs.Prelude.{◌≡◌, ℕ, Bool, cond, List, [], ◌∷◌, Some, None, Option, ◌==◌}
+use Rattle.std.specs.Prelude.{◌≡◌, ℕ, cond, List, [], ◌∷◌, Some, None, Option, ◌==◌}
 use Rattle.store.specs.declared.Version.{Version}
 use Rattle.store.specs.Meaning.{last_of}
 use Rattle.store_runs.specs.declared.StoreCall.{StoreCall}

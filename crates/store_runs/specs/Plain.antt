@@ -1,5 +1,5 @@
 -- A plain store: its meaning alone, and what each call answers and leaves.
-use Rattle.std.specs.Prelude.{ℕ, Bool, true, false, cond, List, [], ◌∷◌, is_ok, Some, None, Ok, Err, Option, Result}
+use Rattle.std.specs.Prelude.{ℕ, cond, List, [], ◌∷◌, is_ok, Some, None, Ok, Err, Option, Result}
 use Rattle.store.specs.declared.Version.{Version}
 use Rattle.store.specs.declared.Refusal.{Refusal}
 use Rattle.store.specs.declared.Store.{Ghosts}

@@ -1,4 +1,6 @@
 // Lists of store calls: whatever list is made, a store answers as its plain meaning does, and so two makes of store answer alike.
+#![tactic(auto)]
+
 ghost use Rattle.std.specs.Prelude.{◌≡◌, ℕ, ◌+◌, ◌<◌, ◌≤◌, true, cond, List, [], length, is_ok, IfOk, if◌then◌else◌, vec_items as items, vec_len as filled, vec_capacity as room};
 ghost use Rattle.store_runs.specs.Ledger.{is_refused, free_rows, rows_taken, rows_given};
 ghost use Rattle.store_runs.specs.Observer.{KnownFrom};

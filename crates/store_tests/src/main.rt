@@ -1,4 +1,6 @@
 // Makes the same lists of calls on both makes of store, and prints what they answer.
+#![tactic(auto)]
+
 use anyhow::anyhow;
 use chain::Chain;
 use journal::Journal;

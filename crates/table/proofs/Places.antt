@@ -1,5 +1,5 @@
-use Rattle.std.proofs.Common.{◌≡◌, ℕ, zero, suc, ◌+◌, ◌-◌, ◌<◌, ◌≤◌, Bool, true, false, cond, eqb, List, [], ◌∷◌, length, get_or, take, drop, set, Some, None, Option, sym, refl, ap, ◌∙◌, add-one, arith, eq-eqb, ne_eqb, eqb-true}
-use Rattle.std.proofs.lemmas.Bool.{cond_true, cond_false}
+use Rattle.std.proofs.Common.{◌≡◌, ℕ, zero, suc, ◌+◌, ◌<◌, ◌≤◌, Bool, true, false, cond, eqb, List, [], ◌∷◌, length, get_or, take, drop, set, Some, None, sym, refl, ap, ◌∙◌, add-one, arith, eq-eqb, ne_eqb}
+use Rattle.std.proofs.lemmas.Bool.{cond-true, cond-false}
 use Rattle.std.proofs.lemmas.List.{at_drop_more, at_drop_all}
 use Rattle.std.specs.List.{remove}
 use Rattle.table.specs.Contents.{place_in, find_in, without, nth_in, stepped}
@@ -7,13 +7,13 @@ use Rattle.table.specs.Contents.{place_in, find_in, without, nth_in, stepped}
 pub here : {X : Type 0} (num : X → ℕ) (xs : List X) (i x : ℕ) (d : X) → i < length xs → d ≡ get_or xs i d → num d ≡ x → place_in num (drop i xs) x ≡ 0
 here num xs i x d h e n =
     at_drop_more (λ ys. place_in num ys x) xs i d h
-    ∙ cond_true (eqb (num (get_or xs i d)) x) 0 (place_in num (drop (i + 1) xs) x + 1) (eq-eqb (num (get_or xs i d)) x (ap num (sym e) ∙ n))
+    ∙ cond-true (eqb (num (get_or xs i d)) x) 0 (place_in num (drop (i + 1) xs) x + 1) (eq-eqb (num (get_or xs i d)) x (ap num (sym e) ∙ n))
 
 pub next : {X : Type 0} (num : X → ℕ) (xs : List X) (i x : ℕ) (d : X) → i < length xs → d ≡ get_or xs i d → (num d ≡ x → ⊥) →
     place_in num (drop i xs) x ≡ place_in num (drop (i + 1) xs) x + 1
 next num xs i x d h e n =
     at_drop_more (λ ys. place_in num ys x) xs i d h
-    ∙ cond_false (eqb (num (get_or xs i d)) x) 0 (place_in num (drop (i + 1) xs) x + 1) (ne_eqb (num (get_or xs i d)) x (λ q. n (ap num e ∙ q)))
+    ∙ cond-false (eqb (num (get_or xs i d)) x) 0 (place_in num (drop (i + 1) xs) x + 1) (ne_eqb (num (get_or xs i d)) x (λ q. n (ap num e ∙ q)))
 
 pub none : {X : Type 0} (num : X → ℕ) (xs : List X) (i x : ℕ) → length xs ≤ i → place_in num (drop i xs) x ≡ 0
 none num xs i x h = at_drop_all (λ ys. place_in num ys x) xs i h

@@ -1,5 +1,5 @@
 -- What a table holds, and what its calls do to it: the first record that has a number counts.
-use Rattle.std.specs.Prelude.{ℕ, zero, suc, ◌+◌, Bool, cond, List, [], ◌∷◌, ◌++◌, length, take, Some, None, Option, ◌==◌, nat_lt}
+use Rattle.std.specs.Prelude.{ℕ, zero, suc, ◌+◌, cond, List, [], ◌∷◌, ◌++◌, length, take, Some, None, Option, ◌==◌, nat_lt}
 use Rattle.table.specs.declared.Table.{Table}
 
 abbrev pub listed : {X : Type 0} {n : ℕ} → Table X n → List X

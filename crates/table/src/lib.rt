@@ -1,4 +1,6 @@
 // A list of at most N records that needs no memory of its own, so that making it cannot fail. Records are reached by their number.
+#![tactic(auto)]
+
 ghost use Rattle.std.specs.Prelude.{◌≡◌, ◌≤◌, length};
 
 mod calls;

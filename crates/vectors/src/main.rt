@@ -1,4 +1,6 @@
 // Runs every script under data/ and compares what is printed with what is expected.
+#![tactic(auto)]
+
 use script::{Session, line_end, too_long};
 use std::alloc::{AllocError, Global};
 use std::{fs, io};

@@ -58,7 +58,7 @@ impl<S: Store> Cell<S> {
     // The transaction's cohort, if it may use the item.
     fn may_use(&self, tx: u64, item: usize, writing: bool) -> Result<Cohort, CellFault>
         ensures value { result ≡ may_use (cell_view S.Store self.now) tx item writing }
-        ensures within { is_ok result ≡ true → item < width }
+        ensures within { is_ok result ≡ true → item < S.width }
     {
         let Some(cohort) = self.cohorts.find(tx) else {
             return Err(CellFault::NotActive);
@@ -77,7 +77,7 @@ impl<S: Store> Cell<S> {
 
     // What a transaction reads that may use the item: its own staged payload, else the newest version's.
     fn value(&self, own: bool, item: usize) -> Option<S::Payload>
-        requires { item < width }
+        requires { item < S.width }
         ensures { result ≡ (if own then (cell_view S.Store self.now).stagings item else newest_at (cell_view S.Store self.now) item) }
     {
         if own {

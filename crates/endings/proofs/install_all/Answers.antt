@@ -1,4 +1,4 @@
-use Rattle.std.proofs.Common.{◌≡◌, ◌&&◌, is_ok, Some, None, sym, refl, ap, ◌∙◌}
+use Rattle.std.proofs.Common.{◌&&◌, is_ok, None, refl, ap, ◌∙◌}
 use Rattle.items.specs.Sets.{has}
 use Rattle.store.specs.Meaning.{grown, install_answer}
 use Rattle.endings.specs.After.{installs}
@@ -19,10 +19,10 @@ loop-i-preserved g c =
     let ve = still go (λ k. grown (v k) t (s k)) v vi i c.loop-i.invariant.0 in
     let se = still go (λ _. None) s si i c.loop-i.invariant.1 in
     let u = ap (λ r. has w i && is_ok r) (same_answer n vi v si s i t ve se) in (
-      next go (λ k. grown (v k) t (s k)) v vi (g.S.Store.versions c.install-if.new.store) i
+      next go (λ k. grown (v k) t (s k)) v vi (g.S.Store.versions c.install_if.new.store) i
           (has w i && is_ok (install_answer n vi si i t)) (grown (vi i) t (si i)) c.loop-i.invariant.0 u
-          (ap (λ y. grown y t (si i)) ve ∙ ap (λ y. grown (v i) t y) se) c.install-if.ensures.versions,
-      next go (λ _. None) s si (g.S.Store.stagings c.install-if.new.store) i
-          (has w i && is_ok (install_answer n vi si i t)) None c.loop-i.invariant.1 u refl c.install-if.ensures.stagings,
-      c.install-if.ensures.capacity ∙ c.loop-i.invariant.2,
+          (ap (λ y. grown y t (si i)) ve ∙ ap (λ y. grown (v i) t y) se) c.install_if.ensures.versions,
+      next go (λ _. None) s si (g.S.Store.stagings c.install_if.new.store) i
+          (has w i && is_ok (install_answer n vi si i t)) None c.loop-i.invariant.1 u refl c.install_if.ensures.stagings,
+      c.install_if.ensures.capacity ∙ c.loop-i.invariant.2,
     )

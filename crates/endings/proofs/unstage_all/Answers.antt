@@ -1,4 +1,4 @@
-use Rattle.std.proofs.Common.{◌≡◌, ◌&&◌, is_ok, Some, None, sym, refl, ap, ◌∙◌}
+use Rattle.std.proofs.Common.{◌&&◌, is_ok, None, refl, ap, ◌∙◌}
 use Rattle.items.specs.Sets.{has}
 use Rattle.store.specs.Meaning.{unstage_answer}
 use Rattle.endings.specs.After.{unstages}
@@ -15,8 +15,8 @@ loop-i-preserved g c =
     let go = unstages n s w in
     let se = still go (λ _. None) s si i c.loop-i.invariant.1 in
     let u = ap (λ r. has w i && is_ok r) (same_unstage n si s i se) in (
-      c.unstage-if.ensures.versions ∙ c.loop-i.invariant.0,
-      next go (λ _. None) s si (g.S.Store.stagings c.unstage-if.new.store) i
-          (has w i && is_ok (unstage_answer n si i)) None c.loop-i.invariant.1 u refl c.unstage-if.ensures.stagings,
-      c.unstage-if.ensures.capacity ∙ c.loop-i.invariant.2,
+      c.unstage_if.ensures.versions ∙ c.loop-i.invariant.0,
+      next go (λ _. None) s si (g.S.Store.stagings c.unstage_if.new.store) i
+          (has w i && is_ok (unstage_answer n si i)) None c.loop-i.invariant.1 u refl c.unstage_if.ensures.stagings,
+      c.unstage_if.ensures.capacity ∙ c.loop-i.invariant.2,
     )

@@ -1,4 +1,4 @@
-use Rattle.std.proofs.Common.{◌-◌, ◌≤◌, length, drop, sym, ap, ◌∙◌, arith, rules}
+use Rattle.std.proofs.Common.{◌-◌, length, drop, sym, ap, ◌∙◌, arith}
 use Rattle.std.specs.Option.{option_or}
 use Rattle.std.proofs.lemmas.List.{at_drop_all}
 use Rattle.journal.specs.Rows.{staged_of}
@@ -18,4 +18,4 @@ returns-in-Some g c = (
 pub loop-place-preserved : goal.loop-place-preserved
 loop-place-preserved g c =
     drop_back (λ xs. staged_of xs c.args.item) c.args.rows.now c.loop-place.place c.index-rows-place.result (omega arith) (omega arith) c.index-rows-place.is
-    ∙ (ap (λ o. option_or o (staged_of (drop c.loop-place.place c.args.rows.now) c.args.item)) (sym c.in-default.ensures) ∙ c.loop-place.invariant)
+    ∙ (ap (λ o. option_or o (staged_of (drop c.loop-place.place c.args.rows.now) c.args.item)) (sym c.in_default.ensures) ∙ c.loop-place.invariant)

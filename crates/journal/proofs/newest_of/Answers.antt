@@ -1,6 +1,5 @@
-use Rattle.std.proofs.Common.{◌≤◌, [], ◌++◌, length, drop, sym, ap, ◌∙◌, arith, rules}
+use Rattle.std.proofs.Common.{◌++◌, length, drop, sym, ap, ◌∙◌, arith}
 use Rattle.std.proofs.lemmas.List.{at_drop_all}
-use Rattle.store.specs.Meaning.{last_of}
 use Rattle.journal.specs.Rows.{versions_of}
 use Rattle.journal.proofs.Searches.{drop_back, newest_found, no_version}
 use Rattle.journal.proofs.newest_of.Goals as goal
@@ -16,4 +15,4 @@ returns-in-Some g c =
 pub loop-i-preserved : goal.loop-i-preserved
 loop-i-preserved g c =
     drop_back (λ xs. versions_of xs c.args.item) c.args.rows.now c.loop-i.i c.index-rows-i.result (omega arith) (omega arith) c.index-rows-i.is
-    ∙ (ap (λ vs. vs ++ versions_of (drop c.loop-i.i c.args.rows.now) c.args.item) (no_version c.index-rows-i.result c.args.item (sym c.in-default.ensures)) ∙ c.loop-i.invariant)
+    ∙ (ap (λ vs. vs ++ versions_of (drop c.loop-i.i c.args.rows.now) c.args.item) (no_version c.index-rows-i.result c.args.item (sym c.in_default.ensures)) ∙ c.loop-i.invariant)

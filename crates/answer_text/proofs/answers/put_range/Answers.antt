@@ -3,4 +3,4 @@ use Rattle.answer_text.proofs.Steps.{then, within}
 use Rattle.answer_text.proofs.answers.put_range.Goals as goal
 
 pub returns : goal.returns
-returns c = within 47 (omega arith) refl (then c.put.ensures (then c.put-number.ensures (then c.put-2.ensures c.put-number-2.ensures)))
+returns c = within 47 (omega arith) refl (then c.put.ensures (then c.put_number.ensures (then c.put-2.ensures c.put_number-2.ensures)))

@@ -11,5 +11,5 @@ returns-then-number-lt0 c =
     let z = c.args.number in
     let q = to_z-of_z w32 z c.ranges.number in
     let neg : lt_z z (pos 0) ≡ true = ap (λ x. lt_z x (pos 0)) (sym q) ∙ c.if-number-lt0.true in
-    let e : 45 ∷ decimal c.from.result ≡ signed_decimal z = ap (λ n. 45 ∷ decimal n) (c.from.ensures ∙ c.unsigned-abs.ensures.value ∙ ap nat_abs q) ∙ sym (minus_text z neg) in
-    within (length (signed_decimal z)) (omega (arith, ap length e)) e (then c.put.ensures c.put-digits.ensures)
+    let e : 45 ∷ decimal c.from.result ≡ signed_decimal z = ap (λ n. 45 ∷ decimal n) (c.from.ensures ∙ c.unsigned_abs.ensures.value ∙ ap nat_abs q) ∙ sym (minus_text z neg) in
+    within (length (signed_decimal z)) (omega (arith, ap length e)) e (then c.put.ensures c.put_digits.ensures)

@@ -1,4 +1,4 @@
-use Rattle.std.proofs.Common.{◌≡◌, sym, refl, ap, ◌∙◌, arith}
+use Rattle.std.proofs.Common.{sym, refl, ap, ◌∙◌, arith}
 use Rattle.store.specs.Meaning.{later}
 use Rattle.store.proofs.Answering.{newest_ok, install_ok, install_late}
 use Rattle.chain.specs.Rows.{staged_of, versions_of}
@@ -6,14 +6,14 @@ use Rattle.chain.proofs.Links.{look_read}
 use Rattle.chain.proofs.Steps.{sound, staged_in_lem, some_staged, never_empty, install_sound, install_staged, install_versions, count_in}
 use Rattle.chain.proofs.ChainStore.install.Goals as goal
 
-pub returns-then-not-is-later : goal.returns-then-not-is-later
-returns-then-not-is-later g c =
+pub returns-then-not-is_later : goal.returns-then-not-is_later
+returns-then-not-is_later g c =
     let h = sound c.args.self.now in
     let vs = versions_of c.args.self.now.rows.items c.args.self.now.slots in
-    let n = newest_ok g.row.N vs c.args.item c.in-ok-newest.newest c.in-ok-newest.ensures in
+    let n = newest_ok g.row.N vs c.args.item c.in_ok-newest.newest c.in_ok-newest.ensures in
     record {
       value = install_late g.row.N vs (staged_of c.args.self.now.rows.items c.args.self.now.slots) c.args.item c.args.time n.0
-          (some_staged h c.args.item c.in-Some.place c.in-Some.is) (ap (λ o. later o c.args.time) n.1 ∙ sym c.if-not-is-later.ensures);
+          (some_staged h c.args.item c.in-Some.place c.in-Some.is) (ap (λ o. later o c.args.time) n.1 ∙ sym c.if-not-is_later.ensures);
       stagings = refl;
       versions = refl;
       capacity = refl;
@@ -29,42 +29,51 @@ pub unreachable-requires : goal.unreachable-requires
 unreachable-requires g c =
     let h = sound c.args.self.now in
     let f = look_read c.args.self.now.rows.items c.in-Some.place c.index.result.now c.index.result.now (staged_in_lem h c.args.item c.in-Some.place c.in-Some.is) c.index.ensures in
-    never_empty h c.args.item c.in-Some.place c.index.result.now c.in-Some.is f (sym c.payload-of.ensures ∙ c.in-default-payload-of.is)
+    never_empty h c.args.item c.in-Some.place c.index.result.now c.in-Some.is f (sym c.payload_of.ensures ∙ c.in_default-payload_of.is)
 
-pub index-mut-requires : goal.index-mut-requires
-index-mut-requires g c =
+pub index_mut-requires : goal.index_mut-requires
+index_mut-requires g c =
     let l = staged_in_lem (sound c.args.self.now) c.args.item c.in-Some.place c.in-Some.is in
     let m = c.args.self.now.rows.ok.0 in omega arith
 
-pub overflow-add-self : goal.overflow-add-self
-overflow-add-self g c =
+pub overflow_add-self : goal.overflow_add-self
+overflow_add-self g c =
     let vs = versions_of c.args.self.now.rows.items c.args.self.now.slots in
-    let n = newest_ok g.row.N vs c.args.item c.in-ok-newest.newest c.in-ok-newest.ensures in
+    let n = newest_ok g.row.N vs c.args.item c.in_ok-newest.newest c.in_ok-newest.ensures in
     let l = count_in (sound c.args.self.now) c.args.item n.0 in
     let m = c.args.self.now.rows.ok.0 in
     let r = c.args.self.now.room.1 in omega arith
 
-pub invariant-of-self : goal.invariant-of-self
-invariant-of-self g c =
+pub invariant_of-self : goal.invariant_of-self
+invariant_of-self g c =
     let h = sound c.args.self.now in
     let vs = versions_of c.args.self.now.rows.items c.args.self.now.slots in
-    let o = newest_ok g.row.N vs c.args.item c.in-ok-newest.newest c.in-ok-newest.ensures in
-    let n = install_sound h c.args.item c.in-Some.place (record { time = c.args.time; payload = c.in-Some-payload-of.payload }) o.0 c.in-Some.is
-    (ap (λ p. later p c.args.time) o.1 ∙ sym c.if-not-is-later.ensures) in
-    (c.args.self.now.small, (c.args.self.now.room, (n.wide, (n.frees, (n.links, (n.stages, (n.full, (n.rises, tt))))))))
+    let o = newest_ok g.row.N vs c.args.item c.in_ok-newest.newest c.in_ok-newest.ensures in
+    let n = install_sound h c.args.item c.in-Some.place (record { time = c.args.time; payload = c.in-Some-payload_of.payload }) o.0 c.in-Some.is
+    (ap (λ p. later p c.args.time) o.1 ∙ sym c.if-not-is_later.ensures) in
+    record {
+      small = c.args.self.now.small;
+      room = c.args.self.now.room;
+      wide = n.wide;
+      frees = n.frees;
+      links = n.links;
+      stages = n.stages;
+      full = n.full;
+      rises = n.rises;
+    }
 
 pub returns : goal.returns
 returns g c =
     let h = sound c.args.self.now in
     let rows = c.args.self.now.rows.items in
     let slots = c.args.self.now.slots in
-    let o = newest_ok g.row.N (versions_of rows slots) c.args.item c.in-ok-newest.newest c.in-ok-newest.ensures in
+    let o = newest_ok g.row.N (versions_of rows slots) c.args.item c.in_ok-newest.newest c.in_ok-newest.ensures in
     let f = look_read rows c.in-Some.place c.index.result.now c.index.result.now (staged_in_lem h c.args.item c.in-Some.place c.in-Some.is) c.index.ensures in
     record {
       value = install_ok g.row.N (versions_of rows slots) (staged_of rows slots) c.args.item c.args.time o.0
-          (some_staged h c.args.item c.in-Some.place c.in-Some.is) (ap (λ p. later p c.args.time) o.1 ∙ sym c.if-not-is-later.ensures);
-      stagings = install_staged h c.args.item c.in-Some.place (record { time = c.args.time; payload = c.in-Some-payload-of.payload }) o.0 c.in-Some.is;
-      versions = install_versions h c.args.item c.in-Some.place c.args.time c.in-Some-payload-of.payload c.index.result.now o.0 c.in-Some.is f
-          (sym c.payload-of.ensures ∙ c.in-Some-payload-of.is);
+          (some_staged h c.args.item c.in-Some.place c.in-Some.is) (ap (λ p. later p c.args.time) o.1 ∙ sym c.if-not-is_later.ensures);
+      stagings = install_staged h c.args.item c.in-Some.place (record { time = c.args.time; payload = c.in-Some-payload_of.payload }) o.0 c.in-Some.is;
+      versions = install_versions h c.args.item c.in-Some.place c.args.time c.in-Some-payload_of.payload c.index.result.now o.0 c.in-Some.is f
+          (sym c.payload_of.ensures ∙ c.in-Some-payload_of.is);
       capacity = refl;
     }

@@ -1,4 +1,4 @@
-use Rattle.std.proofs.Common.{◌≡◌, ◌-◌, ◌<◌, set, refl, ap, ◌∙◌, arith}
+use Rattle.std.proofs.Common.{◌-◌, ◌<◌, set, refl, ap, ◌∙◌, arith}
 use Rattle.store.proofs.Answering.{stage_over, stage_new, stage_full}
 use Rattle.chain.specs.declared.Row.TheVariants.{Staged}
 use Rattle.chain.specs.Rows.{is_free, linked, versions_of, staged_of, staged_at}
@@ -7,15 +7,24 @@ use Rattle.chain.proofs.Steps.{sound, staged_in_lem, some_staged, replace_sound,
 use Rattle.chain.proofs.ChainStore.stage.Goals as goal
 
 -- the payload replaces an earlier one
-pub index-mut-requires : goal.index-mut-requires
-index-mut-requires g c =
+pub index_mut-requires : goal.index_mut-requires
+index_mut-requires g c =
     let l = staged_in_lem (sound c.args.self.now) c.args.item c.in-Some.place c.in-Some.is in
     let m = c.args.self.now.rows.ok.0 in omega arith
 
-pub invariant-of-self : goal.invariant-of-self
-invariant-of-self g c =
+pub invariant_of-self : goal.invariant_of-self
+invariant_of-self g c =
     let n = replace_sound (sound c.args.self.now) c.args.item c.in-Some.place c.args.payload (omega arith) c.in-Some.is in
-    (c.args.self.now.small, (c.args.self.now.room, (n.wide, (n.frees, (n.links, (n.stages, (n.full, (n.rises, tt))))))))
+    record {
+      small = c.args.self.now.small;
+      room = c.args.self.now.room;
+      wide = n.wide;
+      frees = n.frees;
+      links = n.links;
+      stages = n.stages;
+      full = n.full;
+      rises = n.rises;
+    }
 
 pub returns-in-Some : goal.returns-in-Some
 returns-in-Some g c =
@@ -30,15 +39,15 @@ returns-in-Some g c =
     }
 
 -- no row is left
-pub returns-in-default-free : goal.returns-in-default-free
-returns-in-default-free g c =
+pub returns-in_default-free : goal.returns-in_default-free
+returns-in_default-free g c =
     let rows = c.args.self.now.rows.items in
     let slots = c.args.self.now.slots in
-    let z = none_left rows c.args.self.now.left c.args.self.now.free c.in-default-free.is c.args.self.now.frees in
+    let z = none_left rows c.args.self.now.left c.args.self.now.free c.in_default-free.is c.args.self.now.frees in
     let m = c.args.self.now.rows.ok.0 in
     let u = c.args.self.now.full in
     record {
-      value = stage_full g.row.N c.args.self.now.rows.len (versions_of rows slots) (staged_of rows slots) c.args.item (omega arith) (ap (staged_at rows) c.in-default.is) (omega arith);
+      value = stage_full g.row.N c.args.self.now.rows.len (versions_of rows slots) (staged_of rows slots) c.args.item (omega arith) (ap (staged_at rows) c.in_default.is) (omega arith);
       stagings = refl;
       versions = refl;
       capacity = refl;
@@ -50,21 +59,30 @@ index-requires g c =
     let l = free_in (sound c.args.self.now) c.in-Some-free.place c.in-Some-free.is in
     let m = c.args.self.now.rows.ok.0 in omega arith
 
-pub index-mut-requires-2 : goal.index-mut-requires-2
-index-mut-requires-2 g c =
+pub index_mut-requires-2 : goal.index_mut-requires-2
+index_mut-requires-2 g c =
     let l = free_in (sound c.args.self.now) c.in-Some-free.place c.in-Some-free.is in
     let m = c.args.self.now.rows.ok.0 in omega arith
 
-pub invariant-of-self-2 : goal.invariant-of-self-2
-invariant-of-self-2 g c =
+pub invariant_of-self-2 : goal.invariant_of-self-2
+invariant_of-self-2 g c =
     let h = sound c.args.self.now in
     let rows = c.args.self.now.rows.items in
     let j = c.in-Some-free.place in
     let z : 0 < c.args.self.now.left = (free_row h j c.in-Some-free.is).1 in
     let f = look_read rows j c.index.result.now c.index.result.now (free_in h j c.in-Some-free.is) c.index.ensures in
-    let n = stage_sound h c.args.item j c.args.payload c.index.result.now (c.args.self.now.left - 1) (omega arith) c.in-default.is c.in-Some-free.is f (omega arith) in
-    let frees = ap (λ o. linked is_free (set rows j (Staged c.args.item c.args.payload)) (c.args.self.now.left - 1) o) c.next-free-next.ensures ∙ n.frees in
-    (c.args.self.now.small, (c.args.self.now.room, (n.wide, (frees, (n.links, (n.stages, (n.full, (n.rises, tt))))))))
+    let n = stage_sound h c.args.item j c.args.payload c.index.result.now (c.args.self.now.left - 1) (omega arith) c.in_default.is c.in-Some-free.is f (omega arith) in
+    let frees = ap (λ o. linked is_free (set rows j (Staged c.args.item c.args.payload)) (c.args.self.now.left - 1) o) c.next_free-next.ensures ∙ n.frees in
+    record {
+      small = c.args.self.now.small;
+      room = c.args.self.now.room;
+      wide = n.wide;
+      frees = frees;
+      links = n.links;
+      stages = n.stages;
+      full = n.full;
+      rises = n.rises;
+    }
 
 pub returns : goal.returns
 returns g c =
@@ -76,7 +94,7 @@ returns g c =
     let m = c.args.self.now.rows.ok.0 in
     let u = c.args.self.now.full in
     record {
-      value = stage_new g.row.N c.args.self.now.rows.len (versions_of rows slots) (staged_of rows slots) c.args.item (omega arith) (ap (staged_at rows) c.in-default.is) (omega arith);
+      value = stage_new g.row.N c.args.self.now.rows.len (versions_of rows slots) (staged_of rows slots) c.args.item (omega arith) (ap (staged_at rows) c.in_default.is) (omega arith);
       stagings = stage_staged h c.args.item j c.args.payload (omega arith) c.in-Some-free.is;
       versions = stage_versions h c.args.item j c.args.payload (omega arith) c.in-Some-free.is;
       capacity = refl;

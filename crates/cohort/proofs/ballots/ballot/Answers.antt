@@ -7,6 +7,6 @@ use Rattle.cohort.proofs.ballots.ballot.Goals as goal
 pub returns : goal.returns
 returns c =
     let ds = delays c.args.tx c.args.writes c.args.cohorts.now in
-    let e : c.cast-vote.result ≡ vote_of c.args.last ds c.args.start c.args.clock c.args.spread =
-    c.cast-vote.ensures ∙ ap (λ n. vote_over (earliest_tick (n + 1) c.args.start) (latest_tick c.args.clock c.args.spread)) c.greatest-delay.ensures in
+    let e : c.cast_vote.result ≡ vote_of c.args.last ds c.args.start c.args.clock c.args.spread =
+    c.cast_vote.ensures ∙ ap (λ n. vote_over (earliest_tick (n + 1) c.args.start) (latest_tick c.args.clock c.args.spread)) c.greatest_delay.ensures in
     record { value = e; means = subst (Spans (Open c.args.last ds c.args.start c.args.clock c.args.spread)) (sym e) (vote_means c.args.last ds c.args.start c.args.clock c.args.spread) }

@@ -10,5 +10,5 @@ returns g c =
     let l : length c.args.line.now ≤ 80 = omega arith in
     let s = c.args.line.now in
     let e = first_rest s 0 p ∙ ap (λ x. x ∷ between 1 (length s) s) (sym c.from.ensures) in
-    let k = read_line g.P.PayloadText.lawful g.P.PayloadText.written g.met.P.PayloadText.distinct s _ c.call-with.result e l c.call-with.ensures in
+    let k = read_line g.P.PayloadText.lawful g.P.PayloadText.written g.met.P.PayloadText.distinct s _ c.call_with.result e l c.call_with.ensures in
     record { value = k.0; only = k.1 }

@@ -12,8 +12,8 @@ returns-then-word-eq43 c n h e = D.no_sign _ n 43 h e (omega arith) c.if-word-eq
 pub returns-then-word-gt1 : goal.returns-then-word-gt1
 returns-then-word-gt1 c n h e = D.no_zero _ n h e c.if-word-eq48.true c.if-word-gt1.true
 
-pub returns-in-default : goal.returns-in-default
-returns-in-default c n h e = c.in-default.ensures.cases.0 (D.is_text _ n h e)
+pub returns-in_default : goal.returns-in_default
+returns-in_default c n h e = c.in_default.ensures.cases.0 (D.is_text _ n h e)
 
 pub returns-in-Ok-parse : goal.returns-in-Ok-parse
 returns-in-Ok-parse c =

@@ -8,8 +8,8 @@ use Rattle.command.proofs.numbers.numbers.Goals as goal
 pub loop-i-init : goal.loop-i-init
 loop-i-init g c = (length-replicate g.row.N 0, record { many = refl; small = tt; apart = refl; after = tt })
 
-pub returns-in-default : goal.returns-in-default
-returns-in-default g c = short c.loop-i.i g.row.N c.args.text.now _ c.loop-i.rest.now (omega arith) c.loop-i.invariant.1 c.in-default.ensures
+pub returns-in_default : goal.returns-in_default
+returns-in_default g c = short c.loop-i.i g.row.N c.args.text.now _ c.loop-i.rest.now (omega arith) c.loop-i.invariant.1 c.in_default.ensures
 
 pub loop-i-preserved : goal.loop-i-preserved
 loop-i-preserved g c =

@@ -1,4 +1,4 @@
-use Rattle.std.proofs.Common.{◌≡◌, sym, refl, ◌∙◌, arith}
+use Rattle.std.proofs.Common.{refl, arith}
 use Rattle.items.specs.Sets.{meeting}
 use Rattle.items.proofs.Members.{meeting_at, meeting_some}
 use Rattle.items.proofs.ItemSet.meets.Goals as goal

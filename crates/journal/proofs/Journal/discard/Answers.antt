@@ -1,4 +1,4 @@
-use Rattle.std.proofs.Common.{◌≡◌, None, sym, refl, ap, ◌∙◌, arith, rules}
+use Rattle.std.proofs.Common.{None, sym, refl, ap, ◌∙◌, rules}
 use mathlib.Core.Path.{fun_ext}
 use Rattle.store.specs.Meaning.{rising}
 use Rattle.store.proofs.Changing.{with_self}
@@ -7,27 +7,23 @@ use Rattle.journal.proofs.Order.{found_at, found_none}
 use Rattle.journal.proofs.Writes.{removed_versions, removed_staged, removed_sound}
 use Rattle.journal.proofs.Journal.discard.Goals as goal
 
-pub invariant-of-self : goal.invariant-of-self
-invariant-of-self g c =
+pub invariant_of-self : goal.invariant_of-self
+invariant_of-self g c =
     let s = c.args.self.now in
     let rows = c.args.self.now.rows.items in
-    let at = found_at c.as-slice.result.now rows c.args.item c.in-Some.held c.as-slice.ensures.value c.in-Some.ensures in
-    let i = c.remove.ensures.items in (
-      s.wide,
-      (
-        search rules,
-        (
-          ap (sound g.row.N) i ∙ removed_sound g.row.N rows c.in-Some.held.place s.ordered,
-          ((λ k. ap (λ xs. rising (versions_of xs k)) i ∙ (ap rising (removed_versions rows c.in-Some.held.place c.args.item c.in-Some.held.payload k at) ∙ s.rises k)), tt),
-        ),
-      ),
-    )
+    let at = found_at c.as_slice.result.now rows c.args.item c.in-Some.held c.as_slice.ensures.value c.in-Some.ensures in
+    let i = c.remove.ensures.items in record {
+      wide = s.wide;
+      room = search rules;
+      ordered = ap (sound g.row.N) i ∙ removed_sound g.row.N rows c.in-Some.held.place s.ordered;
+      rises = (λ k. ap (λ xs. rising (versions_of xs k)) i ∙ (ap rising (removed_versions rows c.in-Some.held.place c.args.item c.in-Some.held.payload k at) ∙ s.rises k));
+    }
 
 pub returns : goal.returns
 returns g c =
     let s = c.args.self.now in
     let rows = c.args.self.now.rows.items in
-    let at = found_at c.as-slice.result.now rows c.args.item c.in-Some.held c.as-slice.ensures.value c.in-Some.ensures in
+    let at = found_at c.as_slice.result.now rows c.args.item c.in-Some.held c.as_slice.ensures.value c.in-Some.ensures in
     let i = c.remove.ensures.items in
     record {
       stagings = ap staged_of i ∙ fun_ext (λ q. removed_staged g.row.N rows c.in-Some.held.place c.args.item c.in-Some.held.payload q s.ordered at);
@@ -36,10 +32,10 @@ returns g c =
     }
 
 -- nothing is staged
-pub returns-in-default : goal.returns-in-default
-returns-in-default g c =
+pub returns-in_default : goal.returns-in_default
+returns-in_default g c =
     let rows = c.args.self.now.rows.items in
-    let none = found_none c.as-slice.result.now rows c.args.item c.as-slice.ensures.value c.in-default.ensures in
+    let none = found_none c.as_slice.result.now rows c.args.item c.as_slice.ensures.value c.in_default.ensures in
     record {
       stagings = sym (with_self (staged_of rows) c.args.item None (sym none));
       versions = refl;

@@ -1,4 +1,4 @@
-use Rattle.std.proofs.Common.{◌≡◌, ◌<◌, ◌≤◌, sym, refl, ap, ◌∙◌, arith, rules}
+use Rattle.std.proofs.Common.{refl, ap, ◌∙◌, arith, rules}
 use mathlib.Core.Path.{fun_ext}
 use Rattle.store.specs.Meaning.{with, rising}
 use Rattle.store.proofs.Answering.{stage_over, stage_new, stage_full}
@@ -10,26 +10,22 @@ use Rattle.journal.proofs.Writes.{set_staged, set_sound, replaced_versions, push
 use Rattle.journal.proofs.JournalStore.stage.Goals as goal
 
 -- the payload replaces an earlier one
-pub invariant-of-self : goal.invariant-of-self
-invariant-of-self g c =
+pub invariant_of-self : goal.invariant_of-self
+invariant_of-self g c =
     let s = c.args.self.now in
     let rows = c.args.self.now.rows.items in
-    let at = found_at c.as-slice.result.now rows c.args.item c.in-Some.held c.as-slice.ensures.value c.in-Some.ensures in (
-      s.wide,
-      (
-        s.room,
-        (
-          set_sound g.row.N rows c.in-Some.held.place c.args.item c.in-Some.held.payload (Staged c.args.item c.args.payload) s.ordered at refl,
-          ((λ k. ap rising (replaced_versions g.row.N rows c.in-Some.held.place c.args.item c.in-Some.held.payload c.args.payload k s.ordered at) ∙ s.rises k), tt),
-        ),
-      ),
-    )
+    let at = found_at c.as_slice.result.now rows c.args.item c.in-Some.held c.as_slice.ensures.value c.in-Some.ensures in record {
+      wide = s.wide;
+      room = s.room;
+      ordered = set_sound g.row.N rows c.in-Some.held.place c.args.item c.in-Some.held.payload (Staged c.args.item c.args.payload) s.ordered at refl;
+      rises = (λ k. ap rising (replaced_versions g.row.N rows c.in-Some.held.place c.args.item c.in-Some.held.payload c.args.payload k s.ordered at) ∙ s.rises k);
+    }
 
 pub returns-in-Some : goal.returns-in-Some
 returns-in-Some g c =
     let s = c.args.self.now in
     let rows = c.args.self.now.rows.items in
-    let at = found_at c.as-slice.result.now rows c.args.item c.in-Some.held c.as-slice.ensures.value c.in-Some.ensures in
+    let at = found_at c.as_slice.result.now rows c.args.item c.in-Some.held c.as_slice.ensures.value c.in-Some.ensures in
     record {
       value = stage_over g.row.N s.capacity (versions_of rows) (staged_of rows) c.args.item (omega arith)
           (is_staged_lem g.row.N rows c.in-Some.held.place c.args.item c.in-Some.held.payload s.ordered at);
@@ -40,21 +36,17 @@ returns-in-Some g c =
     }
 
 -- a row is added
-pub invariant-of-self-then-len-self : goal.invariant-of-self-then-len-self
-invariant-of-self-then-len-self g c =
+pub invariant_of-self-then-len-self : goal.invariant_of-self-then-len-self
+invariant_of-self-then-len-self g c =
     let s = c.args.self.now in
     let rows = c.args.self.now.rows.items in
-    let none = found_none c.as-slice.result.now rows c.args.item c.as-slice.ensures.value c.in-None.ensures in
-    let i = c.push-reserved.ensures.items in (
-      s.wide,
-      (
-        search rules,
-        (
-          ap (sound g.row.N) i ∙ push_sound g.row.N rows c.args.item c.args.payload (omega arith) s.ordered none,
-          ((λ k. ap (λ xs. rising (versions_of xs k)) i ∙ (ap rising (push_versions rows c.args.item c.args.payload k) ∙ s.rises k)), tt),
-        ),
-      ),
-    )
+    let none = found_none c.as_slice.result.now rows c.args.item c.as_slice.ensures.value c.in-None.ensures in
+    let i = c.push_reserved.ensures.items in record {
+      wide = s.wide;
+      room = search rules;
+      ordered = ap (sound g.row.N) i ∙ push_sound g.row.N rows c.args.item c.args.payload (omega arith) s.ordered none;
+      rises = (λ k. ap (λ xs. rising (versions_of xs k)) i ∙ (ap rising (push_versions rows c.args.item c.args.payload k) ∙ s.rises k));
+    }
 
 pub returns-in-None : goal.returns-in-None
 returns-in-None g c =
@@ -62,8 +54,8 @@ returns-in-None g c =
     let rows = c.args.self.now.rows.items in
     let u = used_is g.row.N rows c.args.self.now.ordered in
     let m = c.args.self.now.rows.ok.0 in
-    let none = found_none c.as-slice.result.now rows c.args.item c.as-slice.ensures.value c.in-None.ensures in
-    let i = c.push-reserved.ensures.items in
+    let none = found_none c.as_slice.result.now rows c.args.item c.as_slice.ensures.value c.in-None.ensures in
+    let i = c.push_reserved.ensures.items in
     record {
       value = stage_new g.row.N s.capacity (versions_of rows) (staged_of rows) c.args.item (omega arith) none (omega arith);
       stagings = ap staged_of i ∙ fun_ext (λ q. push_staged rows c.args.item c.args.payload q none);
@@ -78,7 +70,7 @@ returns-in-None-2 g c =
     let rows = c.args.self.now.rows.items in
     let u = used_is g.row.N rows c.args.self.now.ordered in
     let m = c.args.self.now.rows.ok.0 in
-    let none = found_none c.as-slice.result.now rows c.args.item c.as-slice.ensures.value c.in-None-2.ensures in
+    let none = found_none c.as_slice.result.now rows c.args.item c.as_slice.ensures.value c.in-None-2.ensures in
     record {
       value = stage_full g.row.N s.capacity (versions_of rows) (staged_of rows) c.args.item (omega arith) none (omega arith);
       stagings = refl;

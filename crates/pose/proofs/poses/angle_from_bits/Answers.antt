@@ -9,5 +9,5 @@ returns c =
     let b = c.args.bits in
     let l : b < 2 ^ 32 = search rules in
     let n : nan_bits binary32 b ≡ false = search rules in
-    let e = c.f32-from-bits-with-nan.ensures in
+    let e = c.f32_from_bits_with_nan.ensures in
     record { value = ap Some e ∙ sym (ap (λ t. cond t None (Some (of_bits binary32 b))) n); back = ap angle_bits e ∙ bits_back b l n }

@@ -7,5 +7,5 @@ pub returns : goal.returns
 returns c =
     let x = c.args.angle in
     let f : fits binary32 x ≡ true = search rules in
-    let e = c.f32-to-bits-with-nan.ensures ∙ sym (bits_are x) in
+    let e = c.f32_to_bits_with_nan.ensures ∙ sym (bits_are x) in
     record { value = e; back = ap (of_bits binary32) e ∙ angle_back x f; number = ap (nan_bits binary32) e ∙ nan_stays x f }

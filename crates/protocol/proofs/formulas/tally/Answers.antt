@@ -4,14 +4,14 @@ use Rattle.protocol.specs.Formulas.{tallied, Tallies}
 use Rattle.protocol.proofs.TallyMeans.{tally_means}
 use Rattle.protocol.proofs.formulas.tally.Goals as goal
 
-pub returns-then-all-allow : goal.returns-then-all-allow
-returns-then-all-allow c =
+pub returns-then-all_allow : goal.returns-then-all_allow
+returns-then-all_allow c =
     let v = c.args.votes.now in
-    let e : Commit c.first-time-time.result ≡ tallied v = search rules in
+    let e : Commit c.first_time-time.result ≡ tallied v = search rules in
     record { value = e; means = subst (Tallies v) (sym e) (tally_means v) }
 
-pub returns-else-all-allow : goal.returns-else-all-allow
-returns-else-all-allow c =
+pub returns-else-all_allow : goal.returns-else-all_allow
+returns-else-all_allow c =
     let v = c.args.votes.now in
     let e : Abort ≡ tallied v = search rules in
     record { value = e; means = subst (Tallies v) (sym e) (tally_means v) }

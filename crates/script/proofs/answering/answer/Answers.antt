@@ -1,4 +1,4 @@
-use Rattle.std.proofs.Common.{◌≡◌, [], ◌∷◌, ◌++◌, Some, refl, ap, ◌∙◌}
+use Rattle.std.proofs.Common.{[], ◌∷◌, ◌++◌, Some, refl, ap, ◌∙◌}
 use Rattle.answer_text.specs.Texts.{text_of}
 use Rattle.serial.proofs.Theorem.{does}
 use Rattle.line.specs.View.{line_view}
@@ -13,7 +13,7 @@ returns g c =
     record {
       call = Some c.in-Some.call;
       reads = c.in-Some.ensures.value;
-      prints = whole 64 c.args.out.now c.append-answer.new.out (text_of shown c.call-reply.result ++ (10 ∷ [])) c.append-answer.result c.requires.empty c.requires.room c.append-answer.ensures
+      prints = whole 64 c.args.out.now c.append_answer.new.out (text_of shown c.call-reply.result ++ (10 ∷ [])) c.append_answer.result c.requires.empty c.requires.room c.append_answer.ensures
           ∙ ap (λ a. text_of shown a ++ (10 ∷ [])) c.call-reply.ensures.answer;
       does = does v c.in-Some.call _ w refl c.call-reply.ensures.after;
     }

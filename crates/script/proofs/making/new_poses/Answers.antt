@@ -4,8 +4,8 @@ use Rattle.script.proofs.making.new_poses.Goals as goal
 
 pub returns : goal.returns
 returns c = (
-  script_fresh c.in-ok-store0.store0 c.in-ok-store1.store1 c.in-ok-store2.store2 c.in-ok-store3.store3 c.all.result
+  script_fresh c.in_ok-store0.store0 c.in_ok-store1.store1 c.in_ok-store2.store2 c.in_ok-store3.store3 c.all.result
       (script_view c.new-5.result) c.new-5.ensures.value c.all.ensures
-      c.in-ok-store0.ensures.2.1 c.in-ok-store1.ensures.2.1 c.in-ok-store2.ensures.2.1 c.in-ok-store3.ensures.2.1,
+      c.in_ok-store0.ensures.2.1 c.in_ok-store1.ensures.2.1 c.in_ok-store2.ensures.2.1 c.in_ok-store3.ensures.2.1,
   c.new-5.ensures.runs,
 )

@@ -1,5 +1,4 @@
-use Rattle.std.proofs.Common.{◌≡◌, ℕ, ◌+◌, ◌<◌, ◌≤◌, length, get_or, take, set, Some, None, sym, refl, ap, ◌∙◌, arith, rules}
-use Rattle.std.specs.List.{remove}
+use Rattle.std.proofs.Common.{◌<◌, length, get_or, Some, sym, ap, ◌∙◌, arith}
 use Rattle.std.proofs.lemmas.List.{length-take-le}
 use Rattle.table.specs.Contents.{listed, place_in}
 use Rattle.table.proofs.Places.{find_in_lem, find_out}

@@ -1,7 +1,6 @@
-use Rattle.std.proofs.Common.{◌≡◌, ℕ, ◌+◌, ◌<◌, ◌≤◌, length, get_or, take, set, Some, None, sym, refl, ap, ◌∙◌, arith, rules}
-use Rattle.std.specs.List.{remove}
+use Rattle.std.proofs.Common.{sym, ◌∙◌, arith}
 use Rattle.std.proofs.lemmas.List.{length-take-le}
-use Rattle.table.specs.Contents.{listed, place_in}
+use Rattle.table.specs.Contents.{listed}
 use Rattle.table.proofs.Places.{here, next, none}
 use Rattle.table.proofs.Table.place.Goals as goal
 

@@ -1,4 +1,4 @@
-use Rattle.std.proofs.Common.{◌≡◌, ◌<◌, ◌≤◌, length, get_or, take, sym, ap, ◌∙◌, arith}
+use Rattle.std.proofs.Common.{length, take, arith}
 use borrow.Author.Tests.{lt-true}
 use Rattle.std.proofs.lemmas.List.{take_more_set, length-take-le}
 use Rattle.table.proofs.Table.push.Goals as goal

@@ -1,6 +1,6 @@
-use Rattle.std.proofs.Common.{◌≡◌, ◌<◌, ◌≤◌, length, get_or, take, set, Some, None, sym, refl, ap, ◌∙◌, arith}
+use Rattle.std.proofs.Common.{◌≡◌, ◌<◌, ◌≤◌, length, get_or, set, Some, sym, ap, ◌∙◌, arith}
 use Rattle.std.proofs.lemmas.List.{length-take-le, get_or-take, get_or_default}
-use Rattle.table.specs.Contents.{listed, place_in, find_in, reply_in}
+use Rattle.table.specs.Contents.{listed, place_in, reply_in}
 use Rattle.table.proofs.Places.{find_in_lem, find_out, stepped_in, stepped_out, take_set}
 use Rattle.table.proofs.Table.step.Goals as goal
 

@@ -1,4 +1,4 @@
-use Rattle.std.proofs.Common.{◌≡◌, Bool, true, false, sym, ap, ◌∙◌, rules}
+use Rattle.std.proofs.Common.{◌≡◌, true, sym, ap, ◌∙◌, rules}
 use Rattle.protocol.specs.Sites.{put_at, lacking}
 use Rattle.coordinator.specs.Steps.{cast_by, is_empty}
 use Rattle.coordinator.proofs.Announces.{decides, late_silent, told_by}
@@ -11,7 +11,7 @@ pub returns-in-Cast-Yes : goal.returns-in-Cast-Yes
 returns-in-Cast-Yes c =
     let final = is_empty (lacking c.args.self.now.joined (put_at (cast_by c.args.self.now.votes) c.args.site true)) in
     let e : final ≡ decides c.args.report final = search rules in
-    c.is-last.ensures ∙ (e ∙ sym (told_by c.args.self.now c.args.site c.args.report (sym c.if-not-awaits.ensures)))
+    c.is_last.ensures ∙ (e ∙ sym (told_by c.args.self.now c.args.site c.args.report (sym c.if-not-awaits.ensures)))
 
 pub returns-in-Ack : goal.returns-in-Ack
 returns-in-Ack c =

@@ -5,4 +5,4 @@ use Rattle.line.proofs.parts.Line.call.Goals as goal
 pub returns : goal.returns
 returns g c =
     let v = line_view g.S.Store g.T.Store g.U.Store g.V.Store c.args.self.now in
-    does v c.args.call c.call-step.result (line_view g.S.Store g.T.Store g.U.Store g.V.Store c.call-step.new.self) c.call-step.ensures.value c.call-step.ensures.after
+    does v c.args.call c.call_step.result (line_view g.S.Store g.T.Store g.U.Store g.V.Store c.call_step.new.self) c.call_step.ensures.value c.call_step.ensures.after

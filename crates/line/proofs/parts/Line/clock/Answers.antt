@@ -8,4 +8,4 @@ use Rattle.line.proofs.parts.Line.clock.Goals as goal
 pub returns : goal.returns
 returns g c =
     let v = line_view g.S.Store g.T.Store g.U.Store g.V.Store c.args.self.now in
-    does v (Clock c.args.cell c.args.time) (accepted c.clock-step.result) (line_view g.S.Store g.T.Store g.U.Store g.V.Store c.clock-step.new.self) (ap (λ r. accepted r) c.clock-step.ensures.value) c.clock-step.ensures.after
+    does v (Clock c.args.cell c.args.time) (accepted c.clock_step.result) (line_view g.S.Store g.T.Store g.U.Store g.V.Store c.clock_step.new.self) (ap (λ r. accepted r) c.clock_step.ensures.value) c.clock_step.ensures.after

@@ -8,4 +8,4 @@ use Rattle.line.proofs.parts.Line.deliver.Goals as goal
 pub returns : goal.returns
 returns g c =
     let v = line_view g.S.Store g.T.Store g.U.Store g.V.Store c.args.self.now in
-    does v (Deliver c.args.place) (delivered c.deliver-step.result) (line_view g.S.Store g.T.Store g.U.Store g.V.Store c.deliver-step.new.self) (ap (λ r. delivered r) c.deliver-step.ensures.value) c.deliver-step.ensures.after
+    does v (Deliver c.args.place) (delivered c.deliver_step.result) (line_view g.S.Store g.T.Store g.U.Store g.V.Store c.deliver_step.new.self) (ap (λ r. delivered r) c.deliver_step.ensures.value) c.deliver_step.ensures.after

@@ -8,4 +8,4 @@ use Rattle.line.proofs.parts.Line.fate.Goals as goal
 pub returns : goal.returns
 returns g c =
     let v = line_view g.S.Store g.T.Store g.U.Store g.V.Store c.args.self.now in
-    does v (Fate c.args.tx) (stands c.fate-step.result) v (ap (λ r. stands r) c.fate-step.ensures) refl
+    does v (Fate c.args.tx) (stands c.fate_step.result) v (ap (λ r. stands r) c.fate_step.ensures) refl

@@ -8,4 +8,4 @@ use Rattle.line.proofs.parts.Line.join.Goals as goal
 pub returns : goal.returns
 returns g c =
     let v = line_view g.S.Store g.T.Store g.U.Store g.V.Store c.args.self.now in
-    does v (Join c.args.tx c.args.cell) (accepted c.join-step.result) (line_view g.S.Store g.T.Store g.U.Store g.V.Store c.join-step.new.self) (ap (λ r. accepted r) c.join-step.ensures.value) c.join-step.ensures.after
+    does v (Join c.args.tx c.args.cell) (accepted c.join_step.result) (line_view g.S.Store g.T.Store g.U.Store g.V.Store c.join_step.new.self) (ap (λ r. accepted r) c.join_step.ensures.value) c.join_step.ensures.after

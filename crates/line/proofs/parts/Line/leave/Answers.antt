@@ -8,4 +8,4 @@ use Rattle.line.proofs.parts.Line.leave.Goals as goal
 pub returns : goal.returns
 returns g c =
     let v = line_view g.S.Store g.T.Store g.U.Store g.V.Store c.args.self.now in
-    does v (Leave c.args.tx c.args.cell) (accepted c.leave-step.result) (line_view g.S.Store g.T.Store g.U.Store g.V.Store c.leave-step.new.self) (ap (λ r. accepted r) c.leave-step.ensures.value) c.leave-step.ensures.after
+    does v (Leave c.args.tx c.args.cell) (accepted c.leave_step.result) (line_view g.S.Store g.T.Store g.U.Store g.V.Store c.leave_step.new.self) (ap (λ r. accepted r) c.leave_step.ensures.value) c.leave_step.ensures.after

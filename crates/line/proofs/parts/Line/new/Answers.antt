@@ -1,4 +1,4 @@
-use Rattle.std.proofs.Common.{◌≡◌, [], rules}
+use Rattle.std.proofs.Common.{◌≡◌, rules}
 use Rattle.line.specs.View.{line_view, fresh_line}
 use Rattle.line.proofs.Begins.{begins}
 use Rattle.line.proofs.parts.Line.new.Goals as goal

@@ -8,4 +8,4 @@ use Rattle.line.proofs.parts.Line.read.Goals as goal
 pub returns : goal.returns
 returns g c =
     let v = line_view g.S.Store g.T.Store g.U.Store g.V.Store c.args.self.now in
-    does v (Read c.args.tx c.args.cell c.args.item) (gave c.read-step.result) (line_view g.S.Store g.T.Store g.U.Store g.V.Store c.read-step.new.self) (ap (λ r. gave r) c.read-step.ensures.value) c.read-step.ensures.after
+    does v (Read c.args.tx c.args.cell c.args.item) (gave c.read_step.result) (line_view g.S.Store g.T.Store g.U.Store g.V.Store c.read_step.new.self) (ap (λ r. gave r) c.read_step.ensures.value) c.read_step.ensures.after

@@ -8,4 +8,4 @@ use Rattle.line.proofs.parts.Line.submit.Goals as goal
 pub returns : goal.returns
 returns g c =
     let v = line_view g.S.Store g.T.Store g.U.Store g.V.Store c.args.self.now in
-    does v (Submit c.args.tx) (numbered c.submit-step.result) (line_view g.S.Store g.T.Store g.U.Store g.V.Store c.submit-step.new.self) (ap (λ r. numbered r) c.submit-step.ensures.value) c.submit-step.ensures.after
+    does v (Submit c.args.tx) (numbered c.submit_step.result) (line_view g.S.Store g.T.Store g.U.Store g.V.Store c.submit_step.new.self) (ap (λ r. numbered r) c.submit_step.ensures.value) c.submit_step.ensures.after

@@ -1,4 +1,4 @@
-use Rattle.std.proofs.Common.{◌≡◌, vec_items, sym, refl, subst}
+use Rattle.std.proofs.Common.{vec_items, sym, refl, subst}
 use Rattle.script.specs.Running.{script_view}
 use Rattle.script.specs.declared.session.Session.{Session}
 use Rattle.script.specs.Sessions.{OfCounts, OfPoses, session_view, Replies}
