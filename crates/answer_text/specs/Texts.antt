@@ -1,5 +1,5 @@
 -- The printed text of an answer.
-use Rattle.std.specs.Prelude.{ℕ, List, ◌∷◌, ◌++◌, Some, None, codes, decimal, Option}
+use Rattle.std.specs.Prelude.{ℕ, List, ◌∷◌, ◌++◌, Some, None, Ok, Err, codes, decimal, Option, Result}
 use Rattle.protocol.specs.Faults.{number_of, layer_of, detail_of}
 use Rattle.protocol.specs.declared.messages.Decision.{Decision}
 use Rattle.protocol.specs.declared.messages.Decision.TheVariants.{Commit, Abort}
@@ -7,10 +7,11 @@ use Rattle.protocol.specs.declared.answers.Stage.{Stage}
 use Rattle.protocol.specs.declared.answers.Stage.TheVariants.{Open, Polling, Decided}
 use Rattle.protocol.specs.declared.answers.Delivery.{Delivery}
 use Rattle.protocol.specs.declared.answers.Delivery.TheVariants.{Ranged, Declined, Noted, Committed, Aborted, Settled, Stale, Closed}
+use Rattle.protocol.specs.declared.faults.Fault.{Fault}
 use Rattle.protocol.specs.declared.faults.Layer.{Layer}
 use Rattle.protocol.specs.declared.faults.Layer.TheVariants.{Line, Cell, Store}
 use Rattle.protocol.specs.declared.calls.Answer.{Answer}
-use Rattle.protocol.specs.declared.calls.Answer.TheVariants.{Accepted, Number, Payload, Delivered, Stands, Refused}
+use Rattle.protocol.specs.declared.calls.Answer.TheVariants.{Accepted, Number, Payload, Delivered, Stands}
 use Rattle.answer_text.specs.declared.faults.ScriptFault.{ScriptFault}
 use Rattle.answer_text.specs.declared.faults.ScriptFault.TheVariants.{Malformed, TooLong}
 
@@ -47,13 +48,20 @@ abbrev pub read_text : {P : Type 0} → (P → List ℕ) → Option P → List �
 read_text shown None = codes "absent"
 read_text shown (Some p) = shown p
 
-abbrev pub text_of : {P : Type 0} → (P → List ℕ) → Answer P → List ℕ
-text_of shown Accepted = codes "ok"
-text_of shown (Number n) = codes "ok " ++ decimal n
-text_of shown (Payload o) = codes "ok " ++ read_text shown o
-text_of shown (Delivered d) = codes "ok " ++ delivery_text d
-text_of shown (Stands s) = codes "ok " ++ stage_text s
-text_of shown (Refused f) = refusal_text (layer_text (layer_of f)) (number_of f) (detail_of f)
+abbrev pub accepted_text : {P : Type 0} → (P → List ℕ) → Answer P → List ℕ
+accepted_text shown Accepted = codes "ok"
+accepted_text shown (Number n) = codes "ok " ++ decimal n
+accepted_text shown (Payload o) = codes "ok " ++ read_text shown o
+accepted_text shown (Delivered d) = codes "ok " ++ delivery_text d
+accepted_text shown (Stands s) = codes "ok " ++ stage_text s
+
+abbrev pub fault_text : Fault → List ℕ
+fault_text f = refusal_text (layer_text (layer_of f)) (number_of f) (detail_of f)
+
+-- what a call answers
+abbrev pub text_of : {P : Type 0} → (P → List ℕ) → Result (Answer P) Fault → List ℕ
+text_of shown (Ok a) = accepted_text shown a
+text_of shown (Err f) = fault_text f
 
 -- what the script layer refuses by itself
 abbrev pub script_text : ScriptFault → List ℕ

@@ -1,15 +1,14 @@
-// The printed text of answers, appended to a buffer whose memory was taken before.
+// The printed text of answers. A text is a value that lies on the stack, and its type says how long it can be.
 #![tactic(auto)]
 
 mod answers;
-mod buffers;
 mod faults;
 mod payloads;
+mod pieces;
 
-pub use answers::append_answer;
-pub use buffers::LINE_ROOM;
-pub use faults::{LONGEST_SCRIPT, ScriptFault, append_script_fault};
-pub use payloads::PayloadPrint;
+pub use answers::{LINE_ROOM, answer_line};
+pub use faults::{LONGEST_SCRIPT, ScriptFault, script_fault_line};
+pub use payloads::{PAYLOAD_ROOM, PayloadPrint};
 
 #[cfg(test)]
 mod tests;

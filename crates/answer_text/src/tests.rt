@@ -1,99 +1,105 @@
 use super::*;
 use pose::PoseBits;
 use protocol::{Answer, CellFault, Decision, Delivery, Fault, Range, Site, Stage};
-use std::test::Fail;
 
-const ANSWERS: [(Answer<u64>, &str); 20] = [
-    (Answer::Accepted, "ok\n"),
-    (Answer::Number(0), "ok 0\n"),
-    (Answer::Number(1_000_000), "ok 1000000\n"),
-    (Answer::Payload(None), "ok absent\n"),
+const ANSWERS: [(Result<Answer<u64>, Fault>, &str); 20] = [
+    (Ok(Answer::Accepted), "ok\n"),
+    (Ok(Answer::Number(0)), "ok 0\n"),
+    (Ok(Answer::Number(1_000_000)), "ok 1000000\n"),
+    (Ok(Answer::Payload(None)), "ok absent\n"),
     (
-        Answer::Payload(Some(18_446_744_073_709_551_615)),
+        Ok(Answer::Payload(Some(18_446_744_073_709_551_615))),
         "ok 18446744073709551615\n",
     ),
     (
-        Answer::Delivered(Delivery::Ranged(Range {
+        Ok(Answer::Delivered(Delivery::Ranged(Range {
             earliest: 1000,
             latest: 1500,
-        })),
+        }))),
         "ok range 1000 1500\n",
     ),
-    (Answer::Delivered(Delivery::Declined), "ok out\n"),
-    (Answer::Delivered(Delivery::Noted), "ok noted\n"),
+    (Ok(Answer::Delivered(Delivery::Declined)), "ok out\n"),
+    (Ok(Answer::Delivered(Delivery::Noted)), "ok noted\n"),
     (
-        Answer::Delivered(Delivery::Committed(1700)),
+        Ok(Answer::Delivered(Delivery::Committed(1700))),
         "ok commit 1700\n",
     ),
-    (Answer::Delivered(Delivery::Aborted), "ok abort\n"),
-    (Answer::Delivered(Delivery::Settled), "ok done\n"),
-    (Answer::Delivered(Delivery::Stale), "ok stale\n"),
-    (Answer::Delivered(Delivery::Closed), "ok closed\n"),
-    (Answer::Stands(Stage::Open), "ok open\n"),
-    (Answer::Stands(Stage::Polling), "ok polling\n"),
+    (Ok(Answer::Delivered(Delivery::Aborted)), "ok abort\n"),
+    (Ok(Answer::Delivered(Delivery::Settled)), "ok done\n"),
+    (Ok(Answer::Delivered(Delivery::Stale)), "ok stale\n"),
+    (Ok(Answer::Delivered(Delivery::Closed)), "ok closed\n"),
+    (Ok(Answer::Stands(Stage::Open)), "ok open\n"),
+    (Ok(Answer::Stands(Stage::Polling)), "ok polling\n"),
     (
-        Answer::Stands(Stage::Decided(Decision::Commit(9))),
+        Ok(Answer::Stands(Stage::Decided(Decision::Commit(9)))),
         "ok commit 9\n",
     ),
     (
-        Answer::Stands(Stage::Decided(Decision::Abort)),
+        Ok(Answer::Stands(Stage::Decided(Decision::Abort))),
         "ok abort\n",
     ),
-    (Answer::Refused(Fault::NotLive(1)), "no line 1 1\n"),
+    (Err(Fault::NotLive(1)), "no line 1 1\n"),
     (
-        Answer::Refused(Fault::AtCell(Site::Cell2, CellFault::NotActive)),
+        Err(Fault::AtCell(Site::Cell2, CellFault::NotActive)),
         "no cell 5 2\n",
     ),
     (
-        Answer::Refused(Fault::AtCell(Site::Cell3, CellFault::NoRow(7))),
+        Err(Fault::AtCell(Site::Cell3, CellFault::NoRow(7))),
         "no store 8 7\n",
     ),
 ];
 
 #[test]
-fn answers_have_their_lines(rt: HostRuntime) -> Result<(), Fail> {
+fn answers_have_their_lines(rt: HostRuntime) {
     for (answer, line) in ANSWERS {
-        let mut out = Vec::with_capacity(rt.alloc(), LINE_ROOM)?;
-        assert!(rt; append_answer(&mut out, &answer));
-        assert!(rt; out.as_slice() == line.as_bytes());
+        assert_eq!(rt; answer_line(&answer).as_str(), line);
     }
-    Ok(())
 }
 
 #[test]
-fn poses_are_printed_in_degrees(rt: HostRuntime) -> Result<(), Fail> {
+fn poses_are_printed_in_degrees(rt: HostRuntime) {
     let pose = PoseBits {
         joint0: 0x43b4_0000,
         joint1: 0xc3b4_0000,
         joint2: 0x8000_0000,
         joint3: 0x3f00_0000,
     };
-    let mut out = Vec::with_capacity(rt.alloc(), 2 * LINE_ROOM)?;
-    assert!(rt; append_answer(&mut out, &Answer::Payload(Some(pose))));
     let lost = PoseBits {
         joint0: 0x7fc0_0000,
         joint1: 0x3f80_0000,
         joint2: 0x43b4_8000,
         joint3: 0x7f80_0000,
     };
-    assert!(rt; append_answer(&mut out, &Answer::Payload(Some(lost))));
-    assert!(rt; out.as_slice() == b"ok 360 -360 0 ?\nok ? 1 ? ?\n".as_slice());
-    Ok(())
+    let first = answer_line(&Ok(Answer::Payload(Some(pose))));
+    let second = answer_line(&Ok(Answer::Payload(Some(lost))));
+    assert_eq!(rt; first.as_str(), "ok 360 -360 0 ?\n");
+    assert_eq!(rt; second.as_str(), "ok ? 1 ? ?\n");
 }
 
 #[test]
-fn script_faults_have_their_lines(rt: HostRuntime) -> Result<(), Fail> {
-    let mut out = Vec::with_capacity(rt.alloc(), 2 * LINE_ROOM)?;
-    assert!(rt; append_script_fault(&mut out, ScriptFault::Malformed(12)));
-    assert!(rt; append_script_fault(&mut out, ScriptFault::TooLong));
-    assert!(rt; out.as_slice() == b"no script 14 12\nno script 15 65536\n".as_slice());
-    Ok(())
+fn script_faults_have_their_lines(rt: HostRuntime) {
+    assert_eq!(rt;
+        script_fault_line(ScriptFault::Malformed(12)).as_str(),
+        "no script 14 12\n"
+    );
+    assert_eq!(rt;
+        script_fault_line(ScriptFault::TooLong).as_str(),
+        "no script 15 65536\n"
+    );
 }
 
+// The lines of the largest numbers.
 #[test]
-fn without_room_nothing_is_appended(rt: HostRuntime) {
-    let mut out: Vec<u8> = Vec::new(rt.alloc());
-    assert!(rt; !append_answer(&mut out, &Answer::Number::<u64>(1)));
-    assert!(rt; !append_script_fault(&mut out, ScriptFault::TooLong));
-    assert!(rt; out.len() == 0);
+fn the_longest_lines_have_room(rt: HostRuntime) {
+    let range = Range {
+        earliest: u64::MAX,
+        latest: u64::MAX,
+    };
+    let answer: Result<Answer<u64>, Fault> = Ok(Answer::Delivered(Delivery::Ranged(range)));
+    assert_eq!(rt;
+        answer_line(&answer).as_str(),
+        "ok range 18446744073709551615 18446744073709551615\n"
+    );
+    let refusal = script_fault_line(ScriptFault::Malformed(u64::MAX));
+    assert_eq!(rt; refusal.as_str(), "no script 14 18446744073709551615\n");
 }

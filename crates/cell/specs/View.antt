@@ -1,27 +1,30 @@
 -- What a cell means, over any store.
-use Rattle.std.specs.Prelude.{ℕ, min, [], None}
+use Rattle.std.specs.Prelude.{ℕ, min, cond, [], Some, None, Option, Ok, Err, Result}
+use Rattle.protocol.specs.declared.faults.CellFault.{CellFault}
+use Rattle.protocol.specs.declared.faults.CellFault.TheVariants.{NotActive}
 use Rattle.protocol.specs.Limits.{widest_spread}
-use Rattle.table.specs.Contents.{listed}
 use Rattle.store.specs.declared.Store.{Ghosts}
+use Rattle.cohort.specs.declared.kinds.Cohort.{Cohort}
+use Rattle.cohort.specs.Holds.{is_active}
 use Rattle.model.specs.Cells.{CellView}
 use Rattle.cell.specs.declared.parts.Cell.{Cell}
 
-abbrev pub cell_view : {S P I : Type 0} → Ghosts S P I → Cell S P I → CellView P
+abbrev pub cell_view : {S P : Type 0} → Ghosts S P → Cell S P → CellView P
 cell_view g c = record {
-  width = g.width;
+  width = g.K;
   capacity = g.capacity c.store;
   versions = g.versions c.store;
   stagings = g.stagings c.store;
-  clock = c.clock;
-  spread = c.spread;
-  last = c.last;
-  cohorts = listed c.cohorts;
+  clock = c.timing.clock;
+  spread = c.timing.spread;
+  last = c.timing.last;
+  cohorts = c.cohorts;
 }
 
 -- a cell over a cleared store
-abbrev pub fresh_cell : {S P I : Type 0} → Ghosts S P I → S → ℕ → CellView P
+abbrev pub fresh_cell : {S P : Type 0} → Ghosts S P → S → ℕ → CellView P
 fresh_cell g s spread = record {
-  width = g.width;
+  width = g.K;
   capacity = g.capacity s;
   versions = λ _. [];
   stagings = λ _. None;
@@ -30,3 +33,8 @@ fresh_cell g s spread = record {
   last = 0;
   cohorts = [];
 }
+
+-- the cohort, if it is Active
+abbrev pub active_by : Option Cohort → Result Cohort CellFault
+active_by None = Err NotActive
+active_by (Some c) = cond (is_active c.state) (Ok c) (Err NotActive)

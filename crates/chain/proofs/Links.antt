@@ -7,7 +7,7 @@ use Rattle.store.specs.Meaning.{last_of, held}
 use Rattle.store.proofs.Rising.{last_more}
 use Rattle.chain.specs.declared.Row.{Row}
 use Rattle.chain.specs.declared.Row.TheVariants.{Free, Staged, Installed}
-use Rattle.chain.specs.Rows.{look, is_free, is_staged, is_installed, next_of, version_at, payload_at, version_of, payload_of, next_free, linked, along, staged_at, is_kept}
+use Rattle.chain.specs.Rows.{look, is_free, is_staged, is_installed, next_of, version_at, payload_at, version_of, next_free, linked, along, staged_at, is_kept}
 
 -- the row at a place
 pub look_read : {P : Type 0} (rows : List (Row P)) (i : ℕ) (r d : Row P) → i < length rows → r ≡ get_or rows i d → look rows i ≡ Some r
@@ -181,11 +181,6 @@ along_none rows (suc n) = refl
 
 pub newest_none : {P : Type 0} (rows : List (Row P)) (n : ℕ) (o : Option ℕ) → o ≡ None → last_of (along rows n o) ≡ None
 newest_none rows n o e = ap (λ t. last_of (along rows n t)) e ∙ along_none rows n
-
-pub payload_row : {P : Type 0} (i : ℕ) (o : Option (Row P)) (r : Row P) → is_staged i o ≡ true → o ≡ Some r → payload_of r ≡ None → ⊥
-payload_row i o r h e n =
-    let a = staged_held i o h in
-    let b : held (payload_at o) ≡ 0 = ap (λ t. held (payload_at t)) e ∙ ap held n in omega arith
 
 one_installed : {P : Type 0} (k : ℕ) (o : Option (Row P)) → is_installed k o ≡ true → length (version_at o) ≡ 1
 one_installed k None h = absurd (clash h)

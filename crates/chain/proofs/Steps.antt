@@ -13,7 +13,7 @@ use Rattle.chain.specs.declared.Row.TheVariants.{Free, Staged, Installed}
 use Rattle.chain.specs.declared.Slot.{Slot}
 use Rattle.chain.specs.declared.Chain.{Chain}
 use Rattle.chain.specs.Rows.{look, is_free, is_staged, is_installed, next_of, version_at, payload_at, payload_of, next_free, linked, along, slot_at, versions_of, staged_at, staged_of, is_kept, Sound}
-use Rattle.chain.proofs.Links.{look_in, look_same, linked_set, along_set, staged_set, staged_uninstalled, staged_unfree, staged_once, free_uninstalled, free_unstaged, staged_held, linked_cons, linked_head, free_next, payload_row, length_along}
+use Rattle.chain.proofs.Links.{look_in, look_same, linked_set, along_set, staged_set, staged_uninstalled, staged_unfree, staged_once, free_uninstalled, free_unstaged, staged_held, linked_cons, linked_head, free_next, length_along}
 
 -- the store as a whole
 pub sound : {P : Type 0} {N : ℕ} (s : Chain P N) → Sound (vec_items s.rows) s.free s.left s.slots N
@@ -114,8 +114,8 @@ module _ {P : Type 0} {rows : List (Row P)} {free : Option ℕ} {left : ℕ} {sl
   pub some_staged : (i j : ℕ) → (slot_at slots i).staged ≡ Some j → is_some (staged_of rows slots i) ≡ true
   some_staged i j e = of_held (staged_of rows slots i) (staged_counts i j e)
 
-  pub never_empty : (i j : ℕ) (r : Row P) → (slot_at slots i).staged ≡ Some j → look rows j ≡ Some r → payload_of r ≡ None → ⊥
-  never_empty i j r e f n = payload_row i (look rows j) r (staged_row i j e) f n
+  pub has_payload : (i j : ℕ) (r : Row P) → (slot_at slots i).staged ≡ Some j → look rows j ≡ Some r → is_some (payload_of r) ≡ true
+  has_payload i j r e f = of_held (payload_of r) (sym (ap (λ t. held (payload_at t)) f) ∙ staged_held i (look rows j) (staged_row i j e))
 
   same_along : (i j : ℕ) (x : Row P) → Open rows j i → along (set rows j x) (slot_at slots i).count (slot_at slots i).newest ≡ versions_of rows slots i
   same_along i j x o = along_set i rows j x (slot_at slots i).count (slot_at slots i).newest (o.uninstalled i) (h.links i)

@@ -2,16 +2,17 @@
 #![tactic(auto)]
 
 ghost use Rattle.std.specs.Prelude.{◌≡◌, ℕ, ◌+◌, ◌<◌, ◌≤◌, min, true, [], length, None, vec_items as items, vec_len as rows_len, vec_capacity as rows_cap};
+ghost use Rattle.std.proofs.Common.{rules};
 ghost use Rattle.protocol.specs.Limits.{row_limit};
 ghost use Rattle.store.specs.Meaning.{with, used, rising};
 ghost use Rattle.store.specs.Making.{Making, Blank};
 ghost use Rattle.chain.specs.Rows.{versions_of, staged_of, linked, is_free, is_installed, is_kept, slot_at, next_free, version_of, payload_of, free_rows, row_before};
 
-use protocol::{ITEM_LIMIT, ROW_LIMIT};
 use std::alloc::Global;
-use store::{Items, Refusal, Store, Unmade, Version, is_later};
+use store::{Refusal, Store, Unmade, Version, check_item, is_later, row_count};
 
 // A row of memory; links are places among the rows.
+// The links stand in the rows, and no version is a Box: all memory is taken at making, and a freed row is linked again at once.
 #[derive(Clone, Copy)]
 pub enum Row<P> {
     // Unused, and linked to the next unused row.
@@ -31,7 +32,8 @@ pub enum Row<P> {
     },
 }
 
-// Where an item stands in the rows: its newest version, how many it has, and its staged payload.
+// Where an item stands in the rows: its newest version, how many it has, and its staged payload. `count` is for proofs, which follow an
+// item's links so many steps; a ghost field would be a fact of the whole store, proved anew at each change of another item.
 #[derive(Clone, Copy)]
 pub struct Slot {
     pub newest: Option<usize>,
@@ -40,6 +42,7 @@ pub struct Slot {
 }
 
 // The store; `free` is the first unused row, of `left`.
+// `left` stands beside `free`, since a proof reads the links as so many rows; the slots are as many as the type has items.
 #[derive(Drop)]
 pub struct Chain<P, const N: usize> {
     rows: Vec<Row<P>>,
@@ -56,33 +59,36 @@ pub struct Chain<P, const N: usize> {
     ghost rises: { (k : ℕ) → rising (versions_of (items rows) slots k) ≡ true },
 }
 
-// The unused row that an unused one links to.
-fn next_free<P: Copy>(row: &Row<P>) -> Option<usize>
-    ensures { result ≡ next_free row.now }
-{
-    match *row {
-        Row::Free { next } => next,
-        _ => None,
+// A function for each kind of row: what they give has three types, and a match is as short as a generic one's closure.
+impl<P: Copy> Row<P> {
+    // The unused row that an unused one links to.
+    fn next_free(&self) -> Option<usize>
+        ensures { result ≡ next_free self.now }
+    {
+        match *self {
+            Row::Free { next } => next,
+            _ => None,
+        }
     }
-}
 
-// The version in a row, if it has one.
-fn version_of<P: Copy>(row: &Row<P>) -> Option<Version<P>>
-    ensures { result ≡ version_of row.now }
-{
-    match *row {
-        Row::Installed { version, .. } => Some(version),
-        _ => None,
+    // The version in a row, if it has one.
+    fn version(&self) -> Option<Version<P>>
+        ensures { result ≡ version_of self.now }
+    {
+        match *self {
+            Row::Installed { version, .. } => Some(version),
+            _ => None,
+        }
     }
-}
 
-// The staged payload in a row, if it has one.
-fn payload_of<P: Copy>(row: &Row<P>) -> Option<P>
-    ensures { result ≡ payload_of row.now }
-{
-    match *row {
-        Row::Staged { payload, .. } => Some(payload),
-        _ => None,
+    // The staged payload in a row, if it has one.
+    fn payload(&self) -> Option<P>
+        ensures { result ≡ payload_of self.now }
+    {
+        match *self {
+            Row::Staged { payload, .. } => Some(payload),
+            _ => None,
+        }
     }
 }
 
@@ -90,10 +96,11 @@ fn payload_of<P: Copy>(row: &Row<P>) -> Option<P>
 fn row_before(place: usize) -> Option<usize>
     ensures { result ≡ row_before place }
 {
-    if place == 0 { None } else { Some(place - 1) }
+    place.checked_sub(1)
 }
 
 // Fills the rows with unused ones, each linked to the one before it.
+// A loop, since `extend` can ask for memory, and `clear` may not fail.
 fn fill<P: Copy>(rows: &mut Vec<Row<P>>, capacity: usize)
     requires rows_value { items rows.old ≡ [] }
     requires capacity_bound { capacity ≤ rows_cap rows.old }
@@ -109,7 +116,7 @@ fn fill<P: Copy>(rows: &mut Vec<Row<P>>, capacity: usize)
 }
 
 impl Slot {
-    // The slot of an item that has nothing.
+    // The slot of an item that has nothing; a constant, whose value proofs see, and no derived `Default`, which they do not.
     const BLANK: Slot = Slot {
         newest: None,
         count: 0,
@@ -122,13 +129,8 @@ impl<P: Copy, const N: usize> Chain<P, N> {
     pub fn new(heap: Global, rows: usize) -> Result<Self, Unmade>
         ensures { Making N (λ s. Blank (versions_of (items s.rows) s.slots) (staged_of (items s.rows) s.slots) × (rows_len s.rows ≡ min rows row_limit)) result }
     {
-        if N == 0 || N > ITEM_LIMIT {
-            return Err(Unmade::ItemCount);
-        }
-        let capacity = rows.min(ROW_LIMIT);
-        let Ok(mut rows) = Vec::with_capacity(heap, capacity) else {
-            return Err(Unmade::Memory);
-        };
+        let capacity = row_count::<N>(rows)?;
+        let mut rows = Vec::with_capacity(heap, capacity)?;
         fill(&mut rows, capacity);
         Ok(Chain {
             rows,
@@ -146,28 +148,24 @@ impl<P: Copy, const N: usize> Chain<P, N> {
         ensures capacity { rows_len self.new.rows ≡ rows_len self.old.rows }
     {
         let slot = self.slots[item];
-        let Some(place) = slot.staged else {
-            return;
-        };
-        let next = self.free;
-        self.rows[place] = Row::Free { next };
-        self.free = Some(place);
-        self.left += 1;
-        self.slots[item] = Slot {
-            staged: None,
-            ..slot
-        };
+        if let Some(place) = slot.staged {
+            self.rows[place] = Row::Free { next: self.free };
+            self.free = Some(place);
+            self.left += 1;
+            self.slots[item] = Slot {
+                staged: None,
+                ..slot
+            };
+        }
     }
 }
 
 impl<P: Copy, const N: usize> Store for Chain<P, N> {
     type Payload = P;
 
-    type Items = Items<N>;
+    const K: usize = N;
 
-    const K: Items<N> = Items { count: N };
-
-    ghost width = { N };
+    ghost K = { N };
 
     ghost versions = { λ s. versions_of (items s.rows) s.slots };
 
@@ -175,47 +173,39 @@ impl<P: Copy, const N: usize> Store for Chain<P, N> {
 
     ghost capacity = { λ s. rows_len s.rows };
 
-    fn item_count(items: Items<N>) -> usize {
-        items.count
-    }
+    ghost wide = { λ s. s.small };
 
-    fn lawful(&self) {}
+    ghost fits = { λ s. let f = s.full in let o = s.rows.ok.0 in Prim.search rules };
+
+    ghost rises = { λ s. s.rises };
 
     fn newest(&self, item: usize) -> Result<Option<Version<P>>, Refusal> {
-        if item >= N {
-            return Err(Refusal::NoItem);
-        }
-        let slot = self.slots[item];
-        match slot.newest {
-            Some(place) => Ok(version_of(&self.rows[place])),
+        check_item(item, N)?;
+        // No `and_then`, which was tried: its closure would need clauses of its own for the index.
+        match self.slots[item].newest {
+            Some(place) => Ok(self.rows[place].version()),
             None => Ok(None),
         }
     }
 
     fn staged(&self, item: usize) -> Result<Option<P>, Refusal> {
-        if item >= N {
-            return Err(Refusal::NoItem);
-        }
-        let slot = self.slots[item];
-        match slot.staged {
-            Some(place) => Ok(payload_of(&self.rows[place])),
+        check_item(item, N)?;
+        // As in `newest`.
+        match self.slots[item].staged {
+            Some(place) => Ok(self.rows[place].payload()),
             None => Ok(None),
         }
     }
 
     fn stage(&mut self, item: usize, payload: P) -> Result<(), Refusal> {
-        if item >= N {
-            return Err(Refusal::NoItem);
-        }
+        check_item(item, N)?;
         let slot = self.slots[item];
         if let Some(place) = slot.staged {
             self.rows[place] = Row::Staged { item, payload };
             return Ok(());
         }
-        let Some(place) = self.free else {
-            return Err(Refusal::NoRow);
-        };
-        let next = next_free(&self.rows[place]);
+        let place = self.free.ok_or(Refusal::NoRow)?;
+        let next = self.rows[place].next_free();
         self.rows[place] = Row::Staged { item, payload };
         self.free = next;
         self.left -= 1;
@@ -227,9 +217,7 @@ impl<P: Copy, const N: usize> Store for Chain<P, N> {
     }
 
     fn unstage(&mut self, item: usize) -> Result<(), Refusal> {
-        if item >= N {
-            return Err(Refusal::NoItem);
-        }
+        check_item(item, N)?;
         self.discard(item);
         Ok(())
     }
@@ -237,16 +225,12 @@ impl<P: Copy, const N: usize> Store for Chain<P, N> {
     fn install(&mut self, item: usize, time: u64) -> Result<(), Refusal> {
         let newest = self.newest(item)?;
         let slot = self.slots[item];
-        let Some(place) = slot.staged else {
-            return Err(Refusal::NotStaged);
-        };
+        let place = slot.staged.ok_or(Refusal::NotStaged)?;
         if !is_later(newest, time) {
             return Err(Refusal::NotLater);
         }
-        let Some(payload) = payload_of(&self.rows[place]) else {
-            // A row that a slot names as staged has a payload.
-            unreachable()
-        };
+        // A row that a slot names as staged has a payload.
+        let payload = self.rows[place].payload().unwrap();
         self.rows[place] = Row::Installed {
             item,
             version: Version { time, payload },
@@ -266,6 +250,7 @@ impl<P: Copy, const N: usize> Store for Chain<P, N> {
         fill(&mut self.rows, capacity);
         self.free = row_before(capacity);
         self.left = capacity;
+        // A repeat that is written straight into a field is not covered by the borrow checker.
         let slots = [Slot::BLANK; N];
         self.slots = slots;
     }

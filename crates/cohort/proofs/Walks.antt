@@ -5,23 +5,7 @@ use Rattle.items.specs.declared.ItemSet.{ItemSet}
 use Rattle.items.specs.Sets.{meeting}
 use Rattle.protocol.specs.Formulas.{greatest}
 use Rattle.cohort.specs.declared.kinds.Cohort.{Cohort}
-use Rattle.cohort.specs.Holds.{blocking, blockers, lesser, smallest, latest_in, with_latest, delays, only}
-
-smallest_cons : (m : Option ℕ) (x i : ℕ) (w : Bool) (c : Cohort) (cs : List Cohort) →
-    smallest m (blockers x i w (c ∷ cs)) ≡ smallest (cond (blocking x i w c) (lesser m c.tx) m) (blockers x i w cs)
-smallest_cons m x i w c cs = go (blocking x i w c)
-  where
-    go : (b : Bool) → smallest m (cond b (c.tx ∷ blockers x i w cs) (blockers x i w cs)) ≡ smallest (cond b (lesser m c.tx) m) (blockers x i w cs)
-    go true = refl
-    go false = refl
-
-pub smallest_turn : (m n : Option ℕ) (x i : ℕ) (w : Bool) (cs : List Cohort) (k : ℕ) (d : Cohort) → k < length cs →
-    n ≡ cond (blocking x i w (get_or cs k d)) (lesser m (get_or cs k d).tx) m →
-    smallest n (blockers x i w (drop (k + 1) cs)) ≡ smallest m (blockers x i w (drop k cs))
-smallest_turn m n x i w cs k d h e =
-    ap (λ y. smallest y (blockers x i w (drop (k + 1) cs))) e
-    ∙ (sym (smallest_cons m x i w (get_or cs k d) (drop (k + 1) cs))
-    ∙ sym (at_drop_more (λ ys. smallest m (blockers x i w ys)) cs k d h))
+use Rattle.cohort.specs.Holds.{latest_in, with_latest, delays, only}
 
 with_latest_lem : (m : ℕ) (o : Option ℕ) (ns : List ℕ) → greatest m (with_latest o ns) ≡ greatest (greatest m (with_latest o [])) ns
 with_latest_lem m None ns = refl

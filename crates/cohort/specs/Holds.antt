@@ -5,12 +5,18 @@ use Rattle.items.specs.Sets.{has, meeting}
 use Rattle.cohort.specs.declared.kinds.State.{State}
 use Rattle.cohort.specs.declared.kinds.State.TheVariants.{Active, Voted, Out, Done}
 use Rattle.cohort.specs.declared.kinds.Cohort.{Cohort}
+use Rattle.cohort.specs.declared.kinds.Mode.{Mode}
+use Rattle.cohort.specs.declared.kinds.Mode.TheVariants.{Read, Write}
 
 abbrev pub is_active : State → Bool
 is_active (Active s) = true
 is_active (Voted g) = false
 is_active Out = false
 is_active Done = false
+
+abbrev pub writes_in : Mode → Bool
+writes_in Read = false
+writes_in Write = true
 
 -- LATEST of one that voted yes
 abbrev pub latest_in : State → Option ℕ

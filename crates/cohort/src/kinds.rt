@@ -5,7 +5,7 @@ use protocol::{Order, Range, Report, Vote};
 use table::Numbered;
 
 // What a transaction is at a cell.
-#[derive(Clone, Copy)]
+#[derive(Clone, Copy, Debug, Default, PartialEq, Eq)]
 pub enum State {
     // It reads and writes; with the cell's clock when it joined.
     Active(u64),
@@ -14,10 +14,11 @@ pub enum State {
     // It left, or voted no.
     Out,
     // A decision was carried out.
+    #[default]
     Done,
 }
 
-#[derive(Clone, Copy)]
+#[derive(Clone, Copy, Debug, Default, PartialEq, Eq)]
 pub struct Cohort {
     pub tx: u64,
     pub state: State,
@@ -33,8 +34,31 @@ impl Numbered for Cohort {
     }
 }
 
+// How an item is used.
+#[derive(Clone, Copy, Debug, PartialEq, Eq)]
+pub enum Mode {
+    Read,
+    Write,
+}
+
+// A use of an item by a transaction.
+#[derive(Clone, Copy, Debug, PartialEq, Eq)]
+pub struct Access {
+    pub tx: u64,
+    pub item: usize,
+    pub mode: Mode,
+}
+
+// What a vote takes from its cell: the greatest time committed there, the clock, and the length of the range that it votes.
+#[derive(Clone, Copy, Debug, PartialEq, Eq)]
+pub struct Timing {
+    pub last: u64,
+    pub clock: u64,
+    pub spread: u64,
+}
+
 // What happens to a cohort.
-#[derive(Clone, Copy)]
+#[derive(Clone, Copy, Debug, PartialEq, Eq)]
 pub enum Event {
     // An accepted read or write of the item.
     Read(usize),
@@ -45,7 +69,7 @@ pub enum Event {
 }
 
 // What becomes of the payloads that a cohort staged.
-#[derive(Clone, Copy)]
+#[derive(Clone, Copy, Debug, PartialEq, Eq)]
 pub enum Ending {
     Keep,
     // Those of these items are unstaged.
@@ -55,7 +79,7 @@ pub enum Ending {
 }
 
 // What a cohort does at an event: it may send a report, and its staged payloads may end.
-#[derive(Clone, Copy)]
+#[derive(Clone, Copy, Debug, PartialEq, Eq)]
 pub struct Reaction {
     pub report: Option<Report>,
     pub ending: Ending,

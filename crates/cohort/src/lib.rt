@@ -8,4 +8,4 @@ mod machine;
 
 pub use ballots::ballot;
 pub use holds::clash;
-pub use kinds::{Cohort, Ending, Event, Reaction, State};
+pub use kinds::{Access, Cohort, Ending, Event, Mode, Reaction, State, Timing};

@@ -1,6 +1,6 @@
 ghost use Rattle.std.specs.Prelude.{◌≡◌, Some, None};
 ghost use Rattle.protocol.specs.declared.messages.Report.TheVariants.{Ack};
-ghost use Rattle.cohort.specs.declared.kinds.Ending.TheVariants.{Keep, Unstage, Install};
+ghost use Rattle.cohort.specs.declared.kinds.Ending.TheVariants.{Keep};
 ghost use Rattle.cohort.specs.declared.kinds.State.TheVariants.{Done};
 ghost use Rattle.cohort.specs.Steps.{reacts, ended, voted, vote_reaction, received, reaction, step_to, step_reply};
 
@@ -63,27 +63,15 @@ impl Cohort {
         }
     }
 
-    // Carries a commit out.
-    fn commit(&mut self, time: u64) -> Reaction
-        ensures value { result ≡ reacts (Some Ack) (Install self.old.writes time) }
+    // Carries a decision out: the holds end, and what was staged comes to the ending.
+    fn settle(&mut self, ending: Ending) -> Reaction
+        ensures value { result ≡ reacts (Some Ack) ending }
         ensures after { self.new ≡ ended self.old Done }
     {
-        let writes = self.end(State::Done);
+        self.end(State::Done);
         Reaction {
             report: Some(Report::Ack),
-            ending: Ending::Install(writes, time),
-        }
-    }
-
-    // Carries an abort out.
-    fn abort(&mut self) -> Reaction
-        ensures value { result ≡ reacts (Some Ack) (Unstage self.old.writes) }
-        ensures after { self.new ≡ ended self.old Done }
-    {
-        let writes = self.end(State::Done);
-        Reaction {
-            report: Some(Report::Ack),
-            ending: Ending::Unstage(writes),
+            ending,
         }
     }
 
@@ -98,8 +86,11 @@ impl Cohort {
             (State::Out, Order::Prepare) => Reaction::only(Report::Cast(Vote::No)),
             (State::Done, Order::Prepare) => Reaction::none(),
             (State::Done, Order::Decide(_)) => Reaction::only(Report::Ack),
-            (_, Order::Decide(Decision::Commit(time))) => self.commit(time),
-            (_, Order::Decide(Decision::Abort)) => self.abort(),
+            (_, Order::Decide(Decision::Commit(time))) => self.settle(Ending::Install(
+                self.writes,
+                time,
+            )),
+            (_, Order::Decide(Decision::Abort)) => self.settle(Ending::Unstage(self.writes)),
         }
     }
 }

@@ -1,11 +1,16 @@
 -- A call from its letter, its numbers and its payload.
-use Rattle.std.proofs.Common.{◌≡◌, ℕ, zero, suc, ◌≤◌, Bool, true, false, cond, eqb, List, [], ◌∷◌, ◌++◌, length, get_or, is_some, Some, None, Option, sym, refl, ap, ◌∙◌, subst, arith}
+use Rattle.std.proofs.Common.{◌≡◌, ℕ, ◌^◌, ◌<◌, ◌≤◌, Bool, true, false, cond, eqb, List, [], ◌∷◌, ◌++◌, length, get_or, decimal, is_some, Some, None, Option, sym, refl, ap, ◌∙◌, subst, arith}
+use Rattle.std.proofs.lemmas.Fmt.{decimal_injective}
 use Rattle.protocol.specs.declared.calls.Call.{Call}
 use Rattle.protocol.specs.declared.calls.Call.TheVariants.{Open, Join, Read, Write, Leave, Submit, GiveUp, Resend, Deliver, Lose, Clock, Fate}
-use Rattle.command.specs.Words.{Follows, spaced, AllSmall, After, Numbered, Reads}
+use Rattle.command.specs.Words.{Follows, spaced, AllSmall, Numbered, Reads}
 use Rattle.command.specs.Grammar.{letter_of, numbers_of, payload_of, payload_part, call_text, LawfulPart, LawfulCall, FitsLine, OneText, Alone}
-use Rattle.command.proofs.Rows.{same_numbers}
+use Rattle.command.specs.Decimals.{decimal_spaceless}
+use Rattle.command.specs.Rows.{same_words, after_any, places, all_places}
 use Rattle.command.specs.Splits.{tail_of}
+
+pub same_numbers : (k : ℕ) (s ms ns t u : List ℕ) → Numbered k s ms t → Numbered k s ns u → (ms ≡ ns) × (t ≡ u)
+same_numbers k s ms ns t u f g = same_words (λ n. n < 2 ^ 64) decimal decimal_spaceless decimal_injective k s ms ns t u f g
 
 -- how many numbers follow a letter
 abbrev pub arity : ℕ → ℕ
@@ -48,10 +53,6 @@ part_none : {P : Type 0} (written : P → List ℕ) (o : Option P) → is_some o
 part_none written None e = refl
 part_none written (Some p) e = let z : ◌≡◌ {A = Bool} true false = e in let w : ◌≡◌ {A = ℕ} 0 1 = cc in absurd (omega arith)
 
-any_after : (ns t : List ℕ) → Follows t → After ns t
-any_after [] t f = tt
-any_after (n ∷ ns) t f = f
-
 head_of : {x y : ℕ} {xs ys : List ℕ} → x ∷ xs ≡ y ∷ ys → x ≡ y
 head_of e = cc
 
@@ -59,7 +60,7 @@ head_of e = cc
 pub call_numbers : {P : Type 0} (lawful : P → Type 0) (written : P → List ℕ) (l : ℕ) (rest : List ℕ) (c : Call P) → LawfulCall lawful c → l ∷ rest ≡ call_text written c → (letter_of c ≡ l) × Numbered (arity l) rest (numbers_of c) (payload_part written (payload_of c))
 call_numbers lawful written l rest c h e =
     let k : letter_of c ≡ l = sym (head_of e) in
-    (k, record { many = arity_is c ∙ ap arity k; small = h.0; apart = tail_of e; after = any_after (numbers_of c) (payload_part written (payload_of c)) (part_follows written (payload_of c)) })
+    (k, record { many = arity_is c ∙ ap arity k; each = h.0; apart = tail_of e; after = after_any (numbers_of c) (payload_part written (payload_of c)) (part_follows written (payload_of c)) })
 
 -- where no numbers follow a letter other than that of a write, no call has the text
 pub none_at : {P : Type 0} (lawful : P → Type 0) (written : P → List ℕ) (l letter : ℕ) (rest : List ℕ) → letter ≡ l → eqb l 87 ≡ false → ((ns : List ℕ) → Numbered (arity l) rest ns [] → ⊥) → (c : Call P) → LawfulCall lawful c → letter ∷ rest ≡ call_text written c → ⊥
@@ -68,26 +69,11 @@ none_at lawful written l letter rest q w none c h e =
     let o = part_none written (payload_of c) (part_is c ∙ ap (λ x. eqb x 87) k.0 ∙ w) in
     none (numbers_of c) (subst (λ t. Numbered (arity l) rest (numbers_of c) t) o k.1)
 
--- the first k elements of a list, one by one
-abbrev pub places : ℕ → ℕ → List ℕ → List ℕ
-places zero i ns = []
-places (suc k) i ns = get_or ns i 0 ∷ places k (suc i) ns
-
-shifted : (k i n : ℕ) (ns : List ℕ) → places k (suc i) (n ∷ ns) ≡ places k i ns
-shifted zero i n ns = refl
-shifted (suc k) i n ns = ap (λ x. get_or ns i 0 ∷ x) (shifted k (suc i) n ns)
-
-all_places : (k : ℕ) (ns : List ℕ) → length ns ≡ k → ns ≡ places k 0 ns
-all_places zero [] e = refl
-all_places zero (n ∷ ns) e = absurd (omega arith)
-all_places (suc k) [] e = absurd (omega arith)
-all_places (suc k) (n ∷ ns) e = ap (λ x. n ∷ x) (all_places k ns (omega arith) ∙ sym (shifted k 0 n ns))
-
 -- numbers that were read, one by one, and the text that they end
-pub read_at : (k l : ℕ) {letter : ℕ} {rest ns t : List ℕ} → letter ≡ l → Numbered k rest ns t → AllSmall (places k 0 ns) × (letter ∷ rest ≡ l ∷ (spaced (places k 0 ns) ++ t))
+pub read_at : (k l : ℕ) {letter : ℕ} {rest ns t : List ℕ} → letter ≡ l → Numbered k rest ns t → AllSmall (places 0 k 0 ns) × (letter ∷ rest ≡ l ∷ (spaced (places 0 k 0 ns) ++ t))
 read_at k l {letter} {rest} {ns} {t} q h =
-    let p = all_places k ns h.many in
-    (subst AllSmall p h.small, ap (λ x. x ∷ rest) q ∙ ap (λ x. l ∷ x) (h.apart ∙ ap (λ x. spaced x ++ t) p))
+    let p = all_places 0 k ns h.many in
+    (subst AllSmall p h.each, ap (λ x. x ∷ rest) q ∙ ap (λ x. l ∷ x) (h.apart ∙ ap (λ x. spaced x ++ t) p))
 
 -- where no payload follows the numbers of a write, no call has the text
 pub none_written : {P : Type 0} (lawful : P → Type 0) (written : P → List ℕ) (rest ns t : List ℕ) → Numbered 3 rest ns t → ((p : P) → lawful p → t ≡ 32 ∷ written p → ⊥) → (c : Call P) → LawfulCall lawful c → 87 ∷ rest ≡ call_text written c → ⊥

@@ -1,2 +1,2 @@
-mod Rows
 mod Letters
+mod Readings

@@ -4,3 +4,4 @@ pub mod Signs
 pub mod Decimals
 pub mod Joints
 pub mod Splits
+pub mod Rows

@@ -1,9 +1,6 @@
 -- Where words end, and that there is one way to take a text apart into words.
-use Rattle.std.specs.Prelude.{◌≡◌, ℕ, zero, suc, ◌-◌, ◌<◌, ◌≤◌, List, [], ◌∷◌, ◌++◌, length, take, drop, ◌≢◌, slice_index, refl}
-use Rattle.std.proofs.Common.{sym, ap, ◌∙◌, subst, append-nil, arith}
-use Rattle.std.specs.List.{between}
-use Rattle.std.proofs.lemmas.Slice.{between_to_end, first_rest}
-use Rattle.std.proofs.lemmas.List.{take-append-drop}
+use Rattle.std.specs.Prelude.{◌≡◌, ℕ, zero, suc, ◌<◌, ◌≤◌, List, [], ◌∷◌, ◌++◌, length, take, drop, ◌≢◌, slice_index, refl}
+use Rattle.std.proofs.Common.{sym, ap, ◌∙◌, subst, arith}
 use Rattle.command.specs.Words.{Spaceless, Follows, Front, Nofront}
 
 front_spaceless : (r : List ℕ) (e : ℕ) → e ≤ length r → ((k : ℕ) → k < e → slice_index r k ≢ 32) → Spaceless (take e r)
@@ -18,17 +15,9 @@ rest_follows (b ∷ r) zero h = h (omega arith)
 rest_follows (b ∷ r) (suc e) h = rest_follows r e (λ l. h (omega arith))
 
 -- the first space ends the first word
-pub first_word : (s : List ℕ) (e : ℕ) → 0 < length s → slice_index s 0 ≡ 32 → let r = between 1 (length s) s in e ≤ length r → ((k : ℕ) → k < e → slice_index r k ≢ 32) → (e < length r → slice_index r e ≡ 32) → Front Spaceless (λ w. w) s (take (e - 0) r) (between e (length r) r)
-first_word s e p f l before found =
-    let r = between 1 (length s) s in
-    let t : take (e - 0) r ≡ take e r = ap (λ i. take i r) (omega arith) in
-    let d : between e (length r) r ≡ drop e r = between_to_end r e (length r) (omega arith) in (
-      subst Spaceless (sym t) (front_spaceless r e l before),
-      (
-        first_rest s 0 p ∙ ap (λ b. b ∷ r) f ∙ ap (λ x. 32 ∷ x) (sym (take-append-drop e r) ∙ ap (λ x. x ++ drop e r) (sym t) ∙ ap (λ x. take (e - 0) r ++ x) (sym d)),
-        subst Follows (sym d) (rest_follows r e found),
-      ),
-    )
+pub first_word : (s r w t : List ℕ) (e : ℕ) → s ≡ 32 ∷ r → e ≤ length r → ((k : ℕ) → k < e → slice_index r k ≢ 32) → (e < length r → slice_index r e ≡ 32) → w ≡ take e r → t ≡ drop e r → r ≡ w ++ t → Front Spaceless (λ v. v) s w t
+first_word s r w t e p l before found front back whole =
+    (subst Spaceless (sym front) (front_spaceless r e l before), (p ∙ ap (λ x. 32 ∷ x) whole, subst Follows (sym back) (rest_follows r e found)))
 
 pub tail_of : {x y : ℕ} {xs ys : List ℕ} → x ∷ xs ≡ y ∷ ys → xs ≡ ys
 tail_of e = cc
@@ -51,10 +40,6 @@ pub unread : {X : Type 0} (lawful : X → Type 0) (spelled : X → List ℕ) →
 unread lawful spelled plain s w r f none x t g =
     let e : w ++ r ≡ spelled x ++ t = tail_of (sym f.1.0 ∙ g.1.0) in
     none x g.0 (one_split w (spelled x) r t f.0 (plain x g.0) f.1.1 g.1.1 e).0
-
--- a value that is the whole text stands at its front
-pub whole_front : {X : Type 0} (lawful : X → Type 0) (spelled : X → List ℕ) (s : List ℕ) (x : X) → lawful x → s ≡ 32 ∷ spelled x → Front lawful spelled s x []
-whole_front lawful spelled s x p e = (p, (e ∙ ap (λ w. 32 ∷ w) (sym (append-nil (spelled x))), tt))
 
 -- two values at the front of a text are one, and so are the rests
 pub same_front : {X : Type 0} (lawful : X → Type 0) (spelled : X → List ℕ) → ((x : X) → lawful x → Spaceless (spelled x)) → ((x y : X) → lawful x → lawful y → spelled x ≡ spelled y → x ≡ y) → (s : List ℕ) (x y : X) (t u : List ℕ) → Front lawful spelled s x t → Front lawful spelled s y u → (x ≡ y) × (t ≡ u)

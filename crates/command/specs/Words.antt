@@ -23,23 +23,33 @@ Front lawful spelled s x t = lawful x × ((s ≡ 32 ∷ (spelled x ++ t)) × Fol
 abbrev pub Nofront : {X : Type 0} → (X → Type 0) → (X → List ℕ) → List ℕ → Type 0
 Nofront lawful spelled s = (x : _) (t : List ℕ) → Front lawful spelled s x t → ⊥
 
--- numbers, each after a single space
+-- values, each after a single space
+abbrev pub spaced_of : {X : Type 0} → (X → List ℕ) → List X → List ℕ
+spaced_of spelled [] = []
+spaced_of spelled (x ∷ xs) = 32 ∷ (spelled x ++ spaced_of spelled xs)
+
+abbrev pub AllLawful : {X : Type 0} → (X → Type 0) → List X → Type 0
+AllLawful lawful [] = Unit {0}
+AllLawful lawful (x ∷ xs) = lawful x × AllLawful lawful xs
+
+-- what may follow values: after none of them, anything
+abbrev pub After : {X : Type 0} → List X → List ℕ → Type 0
+After [] t = Unit {0}
+After (x ∷ xs) t = Follows t
+
+-- so many values at the front of a text, and the rest
+pub record Spelled {X : Type 0} (lawful : X → Type 0) (spelled : X → List ℕ) (count : ℕ) (s : List ℕ) (xs : List X) (t : List ℕ) : Type 0 where
+  pub many : length xs ≡ count
+  pub each : AllLawful lawful xs
+  pub apart : s ≡ spaced_of spelled xs ++ t
+  pub after : After xs t
+
+-- the same of numbers
 abbrev pub spaced : List ℕ → List ℕ
-spaced [] = []
-spaced (n ∷ ns) = 32 ∷ (decimal n ++ spaced ns)
+spaced ns = spaced_of decimal ns
 
 abbrev pub AllSmall : List ℕ → Type 0
-AllSmall [] = Unit {0}
-AllSmall (n ∷ ns) = (n < 2 ^ 64) × AllSmall ns
+AllSmall ns = AllLawful (λ n. n < 2 ^ 64) ns
 
--- what may follow numbers: after none of them, anything
-abbrev pub After : List ℕ → List ℕ → Type 0
-After [] t = Unit {0}
-After (n ∷ ns) t = Follows t
-
--- so many numbers at the front of a text, and the rest
-pub record Numbered (count : ℕ) (s ns t : List ℕ) : Type 0 where
-  pub many : length ns ≡ count
-  pub small : AllSmall ns
-  pub apart : s ≡ spaced ns ++ t
-  pub after : After ns t
+abbrev pub Numbered : ℕ → List ℕ → List ℕ → List ℕ → Type 0
+Numbered count s ns t = Spelled (λ n. n < 2 ^ 64) decimal count s ns t

@@ -2,7 +2,7 @@
 ghost use Rattle.command.specs.Grammar.{kind_text};
 ghost use Rattle.command.specs.Words.{Reads};
 
-#[derive(Clone, Copy)]
+#[derive(Clone, Copy, PartialEq, Eq, Debug)]
 pub enum Kind {
     Count,
     Pose,
@@ -12,13 +12,10 @@ pub enum Kind {
 pub fn parse_kind(line: &[u8]) -> Option<Kind>
     ensures { Reads (λ _. Unit {0}) kind_text line.now result }
 {
-    if line.len() == 0 {
-        return None;
-    }
-    let rest = &line[1..];
-    match char::from(line[0]) {
-        'K' if rest == b" count".as_slice() => Some(Kind::Count),
-        'K' if rest == b" pose".as_slice() => Some(Kind::Pose),
+    let (letter, rest) = line.split_first()?;
+    match (char::from(*letter), rest) {
+        ('K', b" count") => Some(Kind::Count),
+        ('K', b" pose") => Some(Kind::Pose),
         _ => None,
     }
 }

@@ -1,35 +1,32 @@
-// Decimal numbers.
-ghost use Rattle.std.specs.Prelude.{ℕ, ◌^◌, ◌<◌, List, [], Some, None, decimal};
-ghost use Rattle.command.specs.Words.{Reads, Numbered};
-ghost use Rattle.command.specs.Decimals.{decimal_spaceless};
+// Numbers in decimal, each with one text: no plus, and no zero before other digits.
+ghost use Rattle.std.specs.Prelude.{◌≡◌, ℕ, ◌^◌, ◌<◌, List, [], Some, None, Ok, IfSome, IfNone, Result, IsAscii, decimal, ◌≢◌, FitsSigned};
+ghost use Rattle.std.specs.Int.{w32};
+ghost use Rattle.std.specs.Fmt.{signed_decimal};
+ghost use Rattle.command.specs.Words.{Reads};
+ghost use Rattle.command.specs.Decimals.{decimal_spaceless, signed_spaceless, signed_distinct};
 ghost use Rattle.std.proofs.lemmas.Fmt.{decimal_injective};
 
-use crate::words::{Word, next_word};
+use crate::words::Word;
+use itoa::{Buffer, Integer};
+use std::str::FromStr;
 
-// A decimal number below 2^64 without leading zeros.
-fn number(word: &[u8]) -> Option<u64>
-    ensures { Reads (λ n. n < 2 ^ 64) decimal word.now result }
+// The number that has the word as its text, or none.
+fn number<N: Integer + FromStr>(word: &[u8]) -> Option<N>
+where
+    N::Err: Drop,
+    ensures some { IfSome result (λ n. word.now ≡ N.text n) }
+    ensures none { IfNone result ((n : N) → IsAscii (N.text n) → ((r : Result N N.Err) → N.from_str_gives (N.text n) r → r ≡ Ok n) → word.now ≢ N.text n) }
 {
-    if word.len() == 0 {
-        return None;
-    }
-    if word[0] == b'+' {
-        return None;
-    }
-    if word[0] == b'0' {
-        if word.len() > 1 {
-            return None;
-        }
-    }
-    let Ok(text) = std::str::from_utf8(word) else {
-        return None;
-    };
-    match text.parse::<u64>() {
-        Ok(value) => Some(value),
-        Err(_) => None,
+    let text = std::str::from_utf8(word).ok()?;
+    let number = text.parse::<N>().ok()?;
+    if Buffer::new().format(number) == text {
+        Some(number)
+    } else {
+        None
     }
 }
 
+// A number below 2^64.
 impl Word for u64 {
     ghost lawful = { λ n. n < 2 ^ 64 };
 
@@ -44,33 +41,17 @@ impl Word for u64 {
     }
 }
 
-// The first N numbers, each after a single space, and what follows them.
-pub fn numbers<const N: usize>(text: &[u8]) -> Option<([u64; N], &[u8])>
-    ensures { elim result [ Some p ↦ Numbered N text.now p.0 p.1.now | None ↦ ((ns t : List ℕ) → Numbered N text.now ns t → ⊥) ] }
-{
-    let mut values = [0u64; N];
-    let mut rest = text;
-    for i in 0..N {
-        let Some((value, after)) = next_word::<u64>(rest) else {
-            return None;
-        };
-        values[i] = value;
-        rest = after;
-    }
-    Some((values, rest))
-}
+// A number of 32 bits with a hyphen for minus.
+impl Word for i32 {
+    ghost lawful = { FitsSigned w32 };
 
-// Just N numbers, each after a single space.
-pub fn only_numbers<const N: usize>(text: &[u8]) -> Option<[u64; N]>
-    ensures { elim result [ Some ns ↦ Numbered N text.now ns [] | None ↦ ((ns : List ℕ) → Numbered N text.now ns [] → ⊥) ] }
-{
-    let Some(found) = numbers::<N>(text) else {
-        return None;
-    };
-    let values = found.0;
-    if found.1.len() == 0 {
-        Some(values)
-    } else {
-        None
+    ghost spelled = { signed_decimal };
+
+    ghost spaceless = { λ z h. signed_spaceless z h };
+
+    ghost distinct = { λ y z h k e. signed_distinct y z h k e };
+
+    fn from_word(word: &[u8]) -> Option<i32> {
+        number(word)
     }
 }

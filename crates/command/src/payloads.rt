@@ -6,8 +6,8 @@ ghost use Rattle.command.specs.Words.{Reads};
 ghost use Rattle.std.proofs.lemmas.Fmt.{decimal_injective};
 ghost use Rattle.command.specs.Joints.{pose_distinct};
 
-use crate::words::{last_word, next_word};
-use pose::{Pose, PoseBits, to_bits};
+use crate::words::only_words;
+use pose::{Pose, PoseBits};
 
 // A kind of payload: which payloads a script can give, and their text.
 pub trait PayloadText: Sized {
@@ -31,7 +31,8 @@ impl PayloadText for u64 {
     ghost distinct = { λ m n h k e. decimal_injective m n h k e };
 
     fn from_text(text: &[u8]) -> Option<u64> {
-        last_word::<u64>(text)
+        let [count] = only_words::<u64, 1>(text)?;
+        Some(count)
     }
 }
 
@@ -39,10 +40,7 @@ impl PayloadText for u64 {
 fn read_pose(text: &[u8]) -> Option<Pose>
     ensures { elim result [ Some p ↦ PlainPose (bits_of p) × (text.now ≡ 32 ∷ pose_text (bits_of p)) | None ↦ ((b : PoseBits) → PlainPose b → text.now ≢ 32 ∷ pose_text b) ] }
 {
-    let (joint0, after0) = next_word::<f32>(text)?;
-    let (joint1, after1) = next_word::<f32>(after0)?;
-    let (joint2, after2) = next_word::<f32>(after1)?;
-    let joint3 = last_word::<f32>(after2)?;
+    let [joint0, joint1, joint2, joint3] = only_words::<f32, 4>(text)?;
     Some(Pose {
         joint0,
         joint1,
@@ -60,9 +58,6 @@ impl PayloadText for PoseBits {
     ghost distinct = { λ b d p q e. pose_distinct b d p q e };
 
     fn from_text(text: &[u8]) -> Option<PoseBits> {
-        match read_pose(text) {
-            Some(pose) => Some(to_bits(pose)),
-            None => None,
-        }
+        read_pose(text).map(PoseBits::from)
     }
 }

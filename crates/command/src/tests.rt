@@ -90,9 +90,7 @@ const MALFORMED: [&str; 24] = [
 #[test]
 fn lines_give_their_calls(rt: HostRuntime) -> Result<(), Fail> {
     for (line, expected) in CALLS {
-        let Some(call) = parse_call::<u64>(line.as_bytes()) else {
-            return Err(Fail::new("malformed"));
-        };
+        let call = parse_call::<u64>(line.as_bytes()).ok_or_else(|| Fail::new("malformed"))?;
         assert_eq!(rt; parts(call), expected);
     }
     Ok(())

@@ -1,6 +1,6 @@
 // Words, each after a single space.
-ghost use Rattle.std.specs.Prelude.{◌≡◌, ℕ, ◌<◌, ◌≤◌, List, ◌∷◌, length, Some, None, ◌≢◌, slice_index};
-ghost use Rattle.command.specs.Words.{Spaceless, Reads, Front, Nofront};
+ghost use Rattle.std.specs.Prelude.{◌≡◌, ℕ, ◌<◌, ◌≤◌, List, [], ◌∷◌, length, Some, None, ◌≢◌, slice_index};
+ghost use Rattle.command.specs.Words.{Spaceless, Reads, Front, Nofront, Spelled};
 
 // A value that is written as one word.
 pub trait Word: Copy {
@@ -23,23 +23,17 @@ fn word_end(text: &[u8]) -> usize
     ensures before { (k : ℕ) → k < result → slice_index text.now k ≢ 32 }
     ensures found { result < length text.now → slice_index text.now result ≡ 32 }
 {
-    for (i, byte) in text.iter().enumerate() {
-        if *byte == b' ' {
-            return i;
-        }
-    }
-    text.len()
+    text.iter()
+        .position(|byte| *byte == b' ')
+        .unwrap_or(text.len())
 }
 
 // The word after a space at the front, and what follows it.
 fn split_word(text: &[u8]) -> Option<(&[u8], &[u8])>
     ensures { elim result [ Some p ↦ Front Spaceless (λ w. w) text.now p.0.now p.1.now | None ↦ ((t : List ℕ) → text.now ≢ 32 ∷ t) ] }
 {
-    let [b' ', rest @ ..] = text else {
-        return None;
-    };
-    let end = word_end(rest);
-    Some((&rest[0..end], &rest[end..]))
+    let rest = text.strip_prefix(b" ")?;
+    Some(rest.split_at(word_end(rest)))
 }
 
 // The value of the word at the front, and what follows it.
@@ -47,14 +41,24 @@ pub fn next_word<T: Word>(text: &[u8]) -> Option<(T, &[u8])>
     ensures { elim result [ Some p ↦ Front T.lawful T.spelled text.now p.0 p.1.now | None ↦ Nofront T.lawful T.spelled text.now ] }
 {
     let (word, rest) = split_word(text)?;
-    let value = T::from_word(word)?;
-    Some((value, rest))
+    Some((T::from_word(word)?, rest))
 }
 
-// The value of the one word that the text is.
-pub fn last_word<T: Word>(text: &[u8]) -> Option<T>
-    ensures { Reads T.lawful (λ x. 32 ∷ T.spelled x) text.now result }
+// The first N values, each after a single space, of a text that moves past them.
+pub fn words<T: Word + Default, const N: usize>(text: &mut &[u8]) -> Option<[T; N]>
+    ensures { elim result [ Some xs ↦ Spelled T.lawful T.spelled N text.old.now xs text.new.now | None ↦ ((xs : List T) (t : List ℕ) → Spelled T.lawful T.spelled N text.old.now xs t → ⊥) ] }
 {
-    let (value, rest) = next_word::<T>(text)?;
-    if rest.len() == 0 { Some(value) } else { None }
+    let mut values = [T::default(); N];
+    for value in values.iter_mut() {
+        (*value, *text) = next_word(*text)?;
+    }
+    Some(values)
+}
+
+// Just N values, each after a single space.
+pub fn only_words<T: Word + Default, const N: usize>(mut text: &[u8]) -> Option<[T; N]>
+    ensures { elim result [ Some xs ↦ Spelled T.lawful T.spelled N text.now xs [] | None ↦ ((xs : List T) → Spelled T.lawful T.spelled N text.now xs [] → ⊥) ] }
+{
+    let values = words(&mut text)?;
+    text.is_empty().then_some(values)
 }

@@ -8,12 +8,12 @@ impl Allowed {
     pub fn allows(self, stage: Stage) -> bool
         ensures { result ≡ allows_at self stage }
     {
-        match (self, stage) {
-            (Allowed::OnlyOpen, Stage::Open) => true,
-            (Allowed::Undecided, Stage::Open | Stage::Polling) => true,
-            (Allowed::Submitted, Stage::Polling | Stage::Decided(_)) => true,
-            (Allowed::AnyStage, _) => true,
-            _ => false,
-        }
+        matches!(
+            (self, stage),
+            (Allowed::OnlyOpen, Stage::Open)
+                | (Allowed::Undecided, Stage::Open | Stage::Polling)
+                | (Allowed::Submitted, Stage::Polling | Stage::Decided(_))
+                | (Allowed::AnyStage, _)
+        )
     }
 }

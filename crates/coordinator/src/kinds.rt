@@ -3,7 +3,7 @@ ghost use Rattle.std.specs.Prelude.{ℕ};
 use protocol::{PerSite, Range, Report, Site, Stage};
 use table::Numbered;
 
-#[derive(Clone, Copy)]
+#[derive(Clone, Copy, Debug, Default, PartialEq, Eq)]
 pub struct Transaction {
     pub number: u64,
     pub stage: Stage,
@@ -22,7 +22,7 @@ impl Numbered for Transaction {
 }
 
 // What happens to a transaction at the coordinator.
-#[derive(Clone, Copy)]
+#[derive(Clone, Copy, Debug, PartialEq, Eq)]
 pub enum Event {
     Join(Site),
     Submit,
@@ -32,7 +32,8 @@ pub enum Event {
 }
 
 // The stages at which a call is allowed.
-#[derive(Clone, Copy)]
+// An enum and no closure: the rules of the twelve calls name these four, and what is said of a call speaks of them.
+#[derive(Clone, Copy, Debug, PartialEq, Eq)]
 pub enum Allowed {
     OnlyOpen,
     // Open or Polling.

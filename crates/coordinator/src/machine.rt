@@ -1,7 +1,7 @@
 ghost use Rattle.std.specs.Prelude.{◌≡◌, ◌≤◌, true, is_some};
 ghost use Rattle.protocol.specs.declared.messages.Report.TheVariants.{Ack};
 ghost use Rattle.protocol.specs.Sites.{put_at, lacking};
-ghost use Rattle.coordinator.specs.Steps.{opened, cast_by, all_voted, all_acked, awaits as awaits_vote, counted, count_answer, heard, heard_answer, step_to, step_reply, sends_for, missing as missing_at, repeated, is_empty, announced};
+ghost use Rattle.coordinator.specs.Steps.{opened, cast_by, all_voted, all_acked, awaits as awaits_vote, decision_answer, counted, count_answer, heard, heard_answer, step_to, step_reply, sends_for, missing as missing_at, repeated, is_empty, announced};
 
 use crate::kinds::{Event, Transaction};
 use protocol::{
@@ -10,15 +10,28 @@ use protocol::{
 };
 use table::{Machine, Numbered};
 
+// The cells whose vote is recorded.
 fn voters(votes: &PerSite<Option<Range>>) -> PerSite<bool>
     ensures { result ≡ cast_by votes.now }
 {
-    PerSite {
-        cell0: votes.cell0.is_some(),
-        cell1: votes.cell1.is_some(),
-        cell2: votes.cell2.is_some(),
-        cell3: votes.cell3.is_some(),
+    votes.map(|vote| vote.is_some())
+}
+
+// What a delivery came to that decided the transaction.
+fn announce(decision: Decision) -> Delivery
+    ensures { result ≡ decision_answer decision }
+{
+    match decision {
+        Decision::Commit(time) => Delivery::Committed(time),
+        Decision::Abort => Delivery::Aborted,
     }
+}
+
+// Whether no cell is marked in `marks` and not in `others`.
+fn none_lacks(marks: &PerSite<bool>, others: &PerSite<bool>) -> bool
+    ensures { result ≡ is_empty (lacking marks.now others.now) }
+{
+    count_marked(&lacking_marks(marks, others)) == 0
 }
 
 impl Transaction {
@@ -38,23 +51,20 @@ impl Transaction {
     fn all_voted(&self) -> bool
         ensures { result ≡ all_voted self.now }
     {
-        count_marked(&lacking_marks(&self.joined, &voters(&self.votes))) == 0
+        none_lacks(&self.joined, &voters(&self.votes))
     }
 
     fn all_acked(&self) -> bool
         ensures { result ≡ all_acked self.now }
     {
-        count_marked(&lacking_marks(&self.joined, &self.acks)) == 0
+        none_lacks(&self.joined, &self.acks)
     }
 
     // Whether the cell's vote is waited for.
     fn awaits(&self, site: Site) -> bool
         ensures { result ≡ awaits_vote self.now self.now.stage site }
     {
-        match self.stage {
-            Stage::Polling => self.votes.get(site).is_none(),
-            _ => false,
-        }
+        self.stage == Stage::Polling && self.votes.get(site).is_none()
     }
 
     // With one more vote recorded: tallied if it was the last one missing.
@@ -65,16 +75,9 @@ impl Transaction {
         if !self.all_voted() {
             return Delivery::Noted;
         }
-        match tally(&self.votes) {
-            Decision::Commit(time) => {
-                self.stage = Stage::Decided(Decision::Commit(time));
-                Delivery::Committed(time)
-            }
-            Decision::Abort => {
-                self.stage = Stage::Decided(Decision::Abort);
-                Delivery::Aborted
-            }
-        }
+        let decision = tally(&self.votes);
+        self.stage = Stage::Decided(decision);
+        announce(decision)
     }
 
     fn hear_ack(&mut self, site: Site) -> Delivery
@@ -118,10 +121,11 @@ impl Transaction {
     {
         let mut marks = voters(&self.votes);
         marks.put(site, true);
-        count_marked(&lacking_marks(&self.joined, &marks)) == 0
+        none_lacks(&self.joined, &marks)
     }
 
     // Whether the report would decide the transaction.
+    #[tactic(auto, using(crate::proofs::Announces::late_silent, crate::proofs::Announces::told_by))]
     fn would_decide(&self, site: Site, report: Report) -> bool
         ensures { result ≡ is_some (announced (heard_answer self.now site report)) }
     {

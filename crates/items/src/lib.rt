@@ -4,18 +4,20 @@
 ghost use Rattle.std.specs.Prelude.{◌≡◌, ℕ, ◌<◌, true};
 ghost use Rattle.items.specs.Sets.{has, none, inserted, meeting};
 
-#[derive(Clone, Copy)]
+#[derive(Clone, Copy, Debug, Default, PartialEq, Eq)]
 pub struct ItemSet {
     bits: u64,
 }
 
 impl ItemSet {
+    #[tactic(auto, unfolding(crate::specs::Sets::none))]
     pub fn new() -> Self
         ensures { result ≡ none }
     {
         ItemSet { bits: 0 }
     }
 
+    #[tactic(auto, using(crate::proofs::Members::has_high), unfolding(crate::specs::Sets::has))]
     pub fn contains(self, item: usize) -> bool
         ensures { result ≡ has self item }
     {
@@ -36,6 +38,7 @@ impl ItemSet {
     }
 
     // Whether an item is in both.
+    #[tactic(auto, using(crate::proofs::Members::meeting_at, crate::proofs::Members::meeting_some), unfolding(crate::specs::Sets::meeting))]
     pub fn meets(self, other: ItemSet) -> bool
         ensures value { result ≡ meeting self other }
         ensures shared { result ≡ true → (i : ℕ) × ((has self i ≡ true) × (has other i ≡ true)) }

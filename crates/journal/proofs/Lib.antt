@@ -1,4 +1,4 @@
-mod Count
+mod Backward
 mod Order
 mod Searches
 mod Writes

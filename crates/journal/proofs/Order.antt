@@ -1,39 +1,19 @@
 -- The order of a journal's rows, and what it says of the item of a staged row.
-use Rattle.std.proofs.Common.{◌≡◌, ℕ, zero, suc, ◌<◌, true, false, not, ◌&&◌, eqb, ltb, List, [], ◌∷◌, ◌++◌, is_some, Some, None, sym, refl, ap, ◌∙◌, subst, inl, inr}
+use Rattle.std.proofs.Common.{◌≡◌, ℕ, zero, suc, true, false, eqb, List, [], ◌∷◌, ◌++◌, is_some, Some, None, Option, sym, refl, ap, ◌∙◌, subst, inl, inr}
 use borrow.Author.Tests.{clash}
-use Rattle.std.specs.Option.{option_or}
-use Rattle.std.proofs.lemmas.Bool.{eq-eqb, not-true, and_parts, cond-true, cond-false, ltb-true}
+use Rattle.std.specs.Option.{option_or, option_map}
+use Rattle.std.proofs.lemmas.Bool.{eq-eqb, cond-true, cond-false}
 use Rattle.std.proofs.lemmas.Bool.Decides.{eqb_tells}
 use Rattle.journal.specs.declared.Held.{Held}
 use Rattle.journal.specs.declared.Row.{Row}
 use Rattle.journal.specs.declared.Row.TheVariants.{Staged, Installed}
+use Rattle.journal.specs.Counts.{sound_parts, absent_parts}
 use Rattle.journal.specs.Rows.{item_of, version_in, staged_in, versions_of, staged_of, absent, precedes, sound, StagedAt, Found}
 
-pub sound_parts : {P : Type 0} (n : ℕ) (r : Row P) (rs : List (Row P)) → sound n (r ∷ rs) ≡ true →
-    (item_of r < n) × (precedes r rs ≡ true) × (sound n rs ≡ true)
-sound_parts n r rs h =
-    let a = and_parts (ltb (item_of r) n) (precedes r rs && sound n rs) h in
-    let b = and_parts (precedes r rs) (sound n rs) a.1 in
-    (ltb-true (item_of r) n a.0, b.0, b.1)
-
-pub absent_parts : {P : Type 0} (k : ℕ) (r : Row P) (rs : List (Row P)) → absent k (r ∷ rs) ≡ true → (eqb (item_of r) k ≡ false) × (absent k rs ≡ true)
-absent_parts k r rs a =
-    let p = and_parts (not (eqb (item_of r) k)) (absent k rs) a in (not-true (eqb (item_of r) k) p.0, p.1)
-
 -- a row of another item has nothing of this one
-pub other_staged : {P : Type 0} (r : Row P) (k : ℕ) → eqb (item_of r) k ≡ false → staged_in r k ≡ None
-other_staged (Staged i p) k e = cond-false (eqb i k) (Some p) None e
-other_staged (Installed i v) k e = refl
-
 pub other_version : {P : Type 0} (r : Row P) (k : ℕ) → eqb (item_of r) k ≡ false → version_in r k ≡ []
 other_version (Staged i p) k e = refl
 other_version (Installed i v) k e = cond-false (eqb i k) (v ∷ []) [] e
-
-pub absent_staged : {P : Type 0} (rows : List (Row P)) (k : ℕ) → absent k rows ≡ true → staged_of rows k ≡ None
-absent_staged [] k a = refl
-absent_staged (r ∷ rs) k a =
-    let p = absent_parts k r rs a in
-    ap (λ o. option_or o (staged_of rs k)) (other_staged r k p.0) ∙ absent_staged rs k p.1
 
 pub absent_versions : {P : Type 0} (rows : List (Row P)) (k : ℕ) → absent k rows ≡ true → versions_of rows k ≡ []
 absent_versions [] k a = refl
@@ -69,12 +49,13 @@ staged_at_lem n (r ∷ rs) (suc j) k p h s =
     let q = sound_parts n r rs h in
     ap (λ o. option_or o (staged_of rs k)) (none_before r rs j k p q.1 s) ∙ staged_at_lem n rs j k p q.2 s
 
--- what a search of a slice of the rows found
-pub found_at : {P : Type 0} (xs rows : List (Row P)) (k : ℕ) (x : Held P) → xs ≡ rows → Found xs k (Some x) → StagedAt rows x.place k x.payload
-found_at xs rows k x e h = let Q : List (Row _) → Type 0 = λ ys. StagedAt ys x.place k x.payload in subst Q e h.1
+pub found_at : {P : Type 0} (rows : List (Row P)) (k : ℕ) (r : Option (Held P)) (x : Held P) → r ≡ Some x → Found rows k r → StagedAt rows x.place k x.payload
+found_at rows k r x e f = let Q : Option (Held _) → Type 0 = λ o. Found rows k o in (subst Q e f).1
 
-pub found_none : {P : Type 0} (xs rows : List (Row P)) (k : ℕ) → xs ≡ rows → Found xs k None → staged_of rows k ≡ None
-found_none xs rows k e h = ap (λ ys. staged_of ys k) (sym e) ∙ h
+-- the payload that a search found is the item's
+pub found_payload : {P : Type 0} (n : ℕ) (rows : List (Row P)) (k : ℕ) (r : Option (Held P)) → sound n rows ≡ true → Found rows k r → option_map (λ h. h.payload) r ≡ staged_of rows k
+found_payload n rows k None h f = sym f
+found_payload n rows k (Some x) h f = sym (staged_at_lem n rows x.place k x.payload h f.1)
 
 pub is_staged_lem : {P : Type 0} (n : ℕ) (rows : List (Row P)) (j k : ℕ) (p : P) → sound n rows ≡ true → StagedAt rows j k p → is_some (staged_of rows k) ≡ true
 is_staged_lem n rows j k p h s = ap is_some (staged_at_lem n rows j k p h s)

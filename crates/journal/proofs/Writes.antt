@@ -12,7 +12,8 @@ use Rattle.store.proofs.Rising.{rising_grow}
 use Rattle.journal.specs.declared.Row.{Row}
 use Rattle.journal.specs.declared.Row.TheVariants.{Staged, Installed}
 use Rattle.journal.specs.Rows.{item_of, version_in, staged_in, versions_of, staged_of, absent, precedes, sound, StagedAt}
-use Rattle.journal.proofs.Order.{sound_parts, absent_parts, other_staged, other_version, absent_staged, absent_versions, none_before, none_after}
+use Rattle.journal.specs.Counts.{sound_parts, absent_parts, other_staged, absent_staged}
+use Rattle.journal.proofs.Order.{other_version, absent_versions, none_before, none_after}
 
 or_none : {X : Type 0} (o : Option X) → option_or o None ≡ o
 or_none None = refl

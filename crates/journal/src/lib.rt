@@ -5,11 +5,11 @@ ghost use Rattle.std.specs.Prelude.{◌≡◌, ℕ, ◌≤◌, min, true, length
 ghost use Rattle.protocol.specs.Limits.{row_limit};
 ghost use Rattle.store.specs.Meaning.{with, rising, last_of};
 ghost use Rattle.store.specs.Making.{Making, Blank};
+ghost use Rattle.journal.specs.Counts.{rows_fit};
 ghost use Rattle.journal.specs.Rows.{version_in, staged_in, versions_of, staged_of, sound, Found};
 
-use protocol::{ITEM_LIMIT, ROW_LIMIT};
 use std::alloc::Global;
-use store::{Items, Refusal, Store, Unmade, Version, is_later};
+use store::{Refusal, Store, Unmade, Version, check_item, is_later, row_count};
 
 // A row in use.
 #[derive(Clone, Copy)]
@@ -28,6 +28,7 @@ struct Held<P> {
 }
 
 // The store; `rows` has memory for all of the capacity from the start.
+// Rows stand in the order of staging; `capacity` stands beside them, since their memory may hold more than was asked for.
 #[derive(Drop)]
 pub struct Journal<P, const N: usize> {
     rows: Vec<Row<P>>,
@@ -38,48 +39,27 @@ pub struct Journal<P, const N: usize> {
     ghost rises: { (k : ℕ) → rising (versions_of (items rows) k) ≡ true },
 }
 
-// The version in the row, where it has one of the item.
-fn version_in<P: Copy>(row: &Row<P>, item: usize) -> Option<Version<P>>
-    ensures { result ≡ last_of (version_in row.now item) }
-{
-    match *row {
-        Row::Installed { item: of, version } if of == item => Some(version),
-        _ => None,
-    }
-}
-
-// The staged payload in the row, where it has one of the item.
-fn staged_in<P: Copy>(row: &Row<P>, item: usize) -> Option<P>
-    ensures { result ≡ staged_in row.now item }
-{
-    match *row {
-        Row::Staged { item: of, payload } if of == item => Some(payload),
-        _ => None,
-    }
-}
-
-// The item's newest version: its last installed row, from the end back.
-fn newest_of<P: Copy>(rows: &[Row<P>], item: usize) -> Option<Version<P>>
-    ensures { result ≡ last_of (versions_of rows.now item) }
-{
-    for i in (0..rows.len()).rev() {
-        if let Some(version) = version_in(&rows[i], item) {
-            return Some(version);
+// A function for each kind of row: what they give has two types, and a match is as short as a generic one's closure.
+impl<P: Copy> Row<P> {
+    // The version in the row, where it has one of the item.
+    fn version_of(&self, item: usize) -> Option<Version<P>>
+        ensures { result ≡ last_of (version_in self.now item) }
+    {
+        match *self {
+            Row::Installed { item: of, version } if of == item => Some(version),
+            _ => None,
         }
     }
-    None
-}
 
-// The item's staged row, from the end back.
-fn find_staged<P: Copy>(rows: &[Row<P>], item: usize) -> Option<Held<P>>
-    ensures { Found rows.now item result }
-{
-    for place in (0..rows.len()).rev() {
-        if let Some(payload) = staged_in(&rows[place], item) {
-            return Some(Held { place, payload });
+    // The staged payload in the row, where it has one of the item.
+    fn staged_of(&self, item: usize) -> Option<P>
+        ensures { result ≡ staged_in self.now item }
+    {
+        match *self {
+            Row::Staged { item: of, payload } if of == item => Some(payload),
+            _ => None,
         }
     }
-    None
 }
 
 impl<P: Copy, const N: usize> Journal<P, N> {
@@ -87,14 +67,25 @@ impl<P: Copy, const N: usize> Journal<P, N> {
     pub fn new(heap: Global, rows: usize) -> Result<Self, Unmade>
         ensures { Making N (λ s. Blank (versions_of (items s.rows)) (staged_of (items s.rows)) × (s.capacity ≡ min rows row_limit)) result }
     {
-        if N == 0 || N > ITEM_LIMIT {
-            return Err(Unmade::ItemCount);
-        }
-        let capacity = rows.min(ROW_LIMIT);
-        let Ok(rows) = Vec::with_capacity(heap, capacity) else {
-            return Err(Unmade::Memory);
-        };
+        let capacity = row_count::<N>(rows)?;
+        let rows = Vec::with_capacity(heap, capacity)?;
         Ok(Journal { rows, capacity })
+    }
+
+    // The item's newest version: its last installed row, from the end back.
+    fn newest_of(&self, item: usize) -> Option<Version<P>>
+        ensures { result ≡ last_of (versions_of (items self.now.rows) item) }
+    {
+        self.rows.iter().rev().find_map(|row| row.version_of(item))
+    }
+
+    // The item's staged row, from the end back.
+    fn find_staged(&self, item: usize) -> Option<Held<P>>
+        ensures { Found (items self.now.rows) item result }
+    {
+        self.rows.iter().enumerate().rev().find_map(|(place, row)| {
+            row.staged_of(item).map(|payload| Held { place, payload })
+        })
     }
 
     // Removes the item's staged row, if it has one.
@@ -103,21 +94,18 @@ impl<P: Copy, const N: usize> Journal<P, N> {
         ensures versions { versions_of (items self.new.rows) ≡ versions_of (items self.old.rows) }
         ensures capacity { self.new.capacity ≡ self.old.capacity }
     {
-        let Some(held) = find_staged(self.rows.as_slice(), item) else {
-            return;
-        };
-        let _ = self.rows.remove(held.place);
+        if let Some(held) = self.find_staged(item) {
+            let _ = self.rows.remove(held.place);
+        }
     }
 }
 
 impl<P: Copy, const N: usize> Store for Journal<P, N> {
     type Payload = P;
 
-    type Items = Items<N>;
+    const K: usize = N;
 
-    const K: Items<N> = Items { count: N };
-
-    ghost width = { N };
+    ghost K = { N };
 
     ghost versions = { λ s. versions_of (items s.rows) };
 
@@ -125,35 +113,26 @@ impl<P: Copy, const N: usize> Store for Journal<P, N> {
 
     ghost capacity = { λ s. s.capacity };
 
-    fn item_count(items: Items<N>) -> usize {
-        items.count
-    }
+    ghost wide = { λ s. s.wide };
 
-    fn lawful(&self) {}
+    ghost fits = { λ s. rows_fit N (items s.rows) (rows_len s.rows) s.capacity s.ordered s.rows.ok.0 s.room.0 };
+
+    ghost rises = { λ s. s.rises };
 
     fn newest(&self, item: usize) -> Result<Option<Version<P>>, Refusal> {
-        if item >= N {
-            return Err(Refusal::NoItem);
-        }
-        Ok(newest_of(self.rows.as_slice(), item))
+        check_item(item, N)?;
+        Ok(self.newest_of(item))
     }
 
     fn staged(&self, item: usize) -> Result<Option<P>, Refusal> {
-        if item >= N {
-            return Err(Refusal::NoItem);
-        }
-        match find_staged(self.rows.as_slice(), item) {
-            Some(held) => Ok(Some(held.payload)),
-            None => Ok(None),
-        }
+        check_item(item, N)?;
+        Ok(self.find_staged(item).map(|held| held.payload))
     }
 
     fn stage(&mut self, item: usize, payload: P) -> Result<(), Refusal> {
-        if item >= N {
-            return Err(Refusal::NoItem);
-        }
+        check_item(item, N)?;
         let row = Row::Staged { item, payload };
-        match find_staged(self.rows.as_slice(), item) {
+        match self.find_staged(item) {
             Some(held) => self.rows[held.place] = row,
             None if self.rows.len() < self.capacity => self.rows.push_reserved(row),
             None => return Err(Refusal::NoRow),
@@ -161,22 +140,17 @@ impl<P: Copy, const N: usize> Store for Journal<P, N> {
         Ok(())
     }
 
+    // As the chain's, and no body in the trait: `discard` is of each make alone.
     fn unstage(&mut self, item: usize) -> Result<(), Refusal> {
-        if item >= N {
-            return Err(Refusal::NoItem);
-        }
+        check_item(item, N)?;
         self.discard(item);
         Ok(())
     }
 
     fn install(&mut self, item: usize, time: u64) -> Result<(), Refusal> {
-        if item >= N {
-            return Err(Refusal::NoItem);
-        }
-        let Some(held) = find_staged(self.rows.as_slice(), item) else {
-            return Err(Refusal::NotStaged);
-        };
-        if !is_later(newest_of(self.rows.as_slice(), item), time) {
+        check_item(item, N)?;
+        let held = self.find_staged(item).ok_or(Refusal::NotStaged)?;
+        if !is_later(self.newest_of(item), time) {
             return Err(Refusal::NotLater);
         }
         self.rows[held.place] = Row::Installed {

@@ -8,11 +8,11 @@ use Rattle.model.specs.Lines.{LineView}
 use Rattle.serial.specs.Runs.{Fresh}
 use Rattle.line.specs.View.{fresh_line}
 
-module _ {S T U V P I J K L : Type 0} (g : Ghosts S P I) (h : Ghosts T P J) (i : Ghosts U P K) (j : Ghosts V P L) (a : S) (b : T) (c : U) (d : V) (spreads : PerSite ℕ) where
+module _ {S T U V P : Type 0} (g : Ghosts S P) (h : Ghosts T P) (i : Ghosts U P) (j : Ghosts V P) (a : S) (b : T) (c : U) (d : V) (spreads : PerSite ℕ) where
   abbrev made : LineView P
   made = fresh_line g h i j a b c d spreads
 
-  fresh : g.width ≤ 64 → h.width ≤ 64 → i.width ≤ 64 → j.width ≤ 64 → Fresh made
+  fresh : g.K ≤ 64 → h.K ≤ 64 → i.K ≤ 64 → j.K ≤ 64 → Fresh made
   fresh p q r s = record {
     transactions = refl;
     post = refl;
@@ -25,5 +25,5 @@ module _ {S T U V P I J K L : Type 0} (g : Ghosts S P I) (h : Ghosts T P J) (i :
     last = λ z. elim z as (λ y. (at made.cells y).last ≡ 0) [ Cell0 ↦ refl | Cell1 ↦ refl | Cell2 ↦ refl | Cell3 ↦ refl ];
   }
 
-  pub begins : (v : LineView P) → v ≡ made → g.width ≤ 64 → h.width ≤ 64 → i.width ≤ 64 → j.width ≤ 64 → Fresh v
+  pub begins : (v : LineView P) → v ≡ made → g.K ≤ 64 → h.K ≤ 64 → i.K ≤ 64 → j.K ≤ 64 → Fresh v
   begins v e p q r s = subst Fresh (sym e) (fresh p q r s)

@@ -1,8 +1,6 @@
-use cells::Cells;
 use coordinator::Transaction;
 use post::Post;
 use protocol::LIVE_LIMIT;
-use store::Store;
 use table::Table;
 
 mod admitting;
@@ -12,14 +10,10 @@ mod leaving;
 mod public;
 mod steps;
 
+// A line over the four cells. No `impl Model`, as for a cell: clauses say `line_view` by the view that the cells have.
 #[derive(Drop)]
-pub struct Line<
-    S: Store,
-    T: Store<Payload = S::Payload>,
-    U: Store<Payload = S::Payload>,
-    V: Store<Payload = S::Payload>,
-> {
-    cells: Cells<S, T, U, V>,
+pub struct Line<C> {
+    cells: C,
     transactions: Table<Transaction, LIVE_LIMIT>,
     post: Post,
     // How many transactions were opened so far.

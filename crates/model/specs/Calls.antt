@@ -6,34 +6,37 @@ use Rattle.protocol.specs.declared.answers.Delivery.{Delivery}
 use Rattle.protocol.specs.declared.calls.Call.{Call}
 use Rattle.protocol.specs.declared.calls.Call.TheVariants.{Open, Join, Read, Write, Leave, Submit, GiveUp, Resend, Deliver, Lose, Clock, Fate}
 use Rattle.protocol.specs.declared.calls.Answer.{Answer}
-use Rattle.protocol.specs.declared.calls.Answer.TheVariants.{Accepted, Number, Payload, Delivered, Stands, Refused}
+use Rattle.protocol.specs.declared.calls.Answer.TheVariants.{Accepted, Number, Payload, Delivered, Stands}
 use Rattle.protocol.specs.Sites.{site_of}
 use Rattle.table.specs.Contents.{nth_in}
 use Rattle.coordinator.specs.declared.kinds.Allowed.TheVariants.{OnlyOpen, Undecided, Submitted, AnyStage}
 use Rattle.model.specs.Lines.{LineView, transaction_of, admit, admit_at, open_told, open_done, join_by, join_done_by, read_by, read_done_by, write_by, write_done_by, leave_by, leave_done_by, submit_by, submit_done_by, give_up_by, give_up_done_by, resend_by, resend_done_by, deliver_by, deliver_done_by, lose_told, lose_done, clock_told, clock_done, fate_by}
 
--- a call's result as an answer
-abbrev pub accepted : {P : Type 0} → Result Unit Fault → Answer P
-accepted (Ok u) = Accepted
-accepted (Err f) = Refused f
+-- what a call comes to: an answer, or why it is refused
+abbrev pub Outcome : Type 0 → Type 0
+Outcome P = Result (Answer P) Fault
 
-abbrev pub numbered : {P : Type 0} → Result ℕ Fault → Answer P
-numbered (Ok n) = Number n
-numbered (Err f) = Refused f
+abbrev pub accepted : {P : Type 0} → Result Unit Fault → Outcome P
+accepted (Ok u) = Ok Accepted
+accepted (Err f) = Err f
 
-abbrev pub gave : {P : Type 0} → Result (Option P) Fault → Answer P
-gave (Ok p) = Payload p
-gave (Err f) = Refused f
+abbrev pub numbered : {P : Type 0} → Result ℕ Fault → Outcome P
+numbered (Ok n) = Ok (Number n)
+numbered (Err f) = Err f
 
-abbrev pub delivered : {P : Type 0} → Result Delivery Fault → Answer P
-delivered (Ok d) = Delivered d
-delivered (Err f) = Refused f
+abbrev pub gave : {P : Type 0} → Result (Option P) Fault → Outcome P
+gave (Ok p) = Ok (Payload p)
+gave (Err f) = Err f
 
-abbrev pub stands : {P : Type 0} → Result Stage Fault → Answer P
-stands (Ok t) = Stands t
-stands (Err f) = Refused f
+abbrev pub delivered : {P : Type 0} → Result Delivery Fault → Outcome P
+delivered (Ok d) = Ok (Delivered d)
+delivered (Err f) = Err f
 
-abbrev pub told : {P : Type 0} → LineView P → Call P → Answer P
+abbrev pub stands : {P : Type 0} → Result Stage Fault → Outcome P
+stands (Ok t) = Ok (Stands t)
+stands (Err f) = Err f
+
+abbrev pub told : {P : Type 0} → LineView P → Call P → Outcome P
 told v Open = numbered (open_told v)
 told v (Join x c) = accepted (join_by v x (admit_at v x c OnlyOpen))
 told v (Read x c i) = gave (read_by v x i (admit_at v x c Undecided))

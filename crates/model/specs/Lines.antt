@@ -159,11 +159,15 @@ abbrev pub submit_done_by : {P : Type 0} → LineView P → ℕ → Result Trans
 submit_done_by v x (Ok d) = cond (is_ok (submit_some v d)) (sending (coordinated v x Submit) (orders_to d.joined x Prepare)) v
 submit_done_by v x (Err f) = v
 
+-- each cell forgets x
+abbrev pub all_close : {P : Type 0} → PerSite (CellView P) → ℕ → PerSite (CellView P)
+all_close e x = record { cell0 = close_done e.cell0 x; cell1 = close_done e.cell1 x; cell2 = close_done e.cell2 x; cell3 = close_done e.cell3 x }
+
 -- a transaction closes: everything of it is forgotten, but for what it committed
 abbrev pub shut : {P : Type 0} → LineView P → ℕ → LineView P
 shut v x =
     record {
-      cells = record { cell0 = close_done v.cells.cell0 x; cell1 = close_done v.cells.cell1 x; cell2 = close_done v.cells.cell2 x; cell3 = close_done v.cells.cell3 x };
+      cells = all_close v.cells x;
       transactions = without number_in v.transactions x;
       post = v.post;
       opens = v.opens;

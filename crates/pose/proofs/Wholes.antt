@@ -98,14 +98,3 @@ means x = at (in_turn n) (eq x (of_int binary32 n)) refl refl
     at true true p q = (p, q)
     at false d p q = λ z h. falls (eq x (of_int binary32 z)) (λ t. let k : ◌≡◌ {A = Bool} true false = sym h ∙ ap in_turn (sym (goes x z h t)) ∙ p in let z : ◌≡◌ {A = ℕ} 0 1 = cc in omega arith)
     at true false p q = λ z h. falls (eq x (of_int binary32 z)) (λ t. subst T (sym (ap (λ y. eq x (of_int binary32 y)) (goes x z h t)) ∙ q) t)
-
--- no whole number: one out of range, or one that the angle only lies near
-pub none_out : (x : Float) → in_turn (to_signed 31 x) ≡ false → None ≡ whole_of x
-none_out x h = sym (ap (λ b. cond (b && eq x (of_int binary32 (to_signed 31 x))) (Some (to_signed 31 x)) None) h)
-
-pub none_near : (x : Float) → eq x (of_int binary32 (to_signed 31 x)) ≡ false → None ≡ whole_of x
-none_near x h = at (in_turn (to_signed 31 x)) ∙ sym (ap (λ b. cond (in_turn (to_signed 31 x) && b) (Some (to_signed 31 x)) None) h)
-  where
-    at : (b : Bool) → None ≡ cond (b && false) (Some (to_signed 31 x)) None
-    at true = refl
-    at false = refl

@@ -1,4 +1,5 @@
-// Angles of a whole number of degrees, which cross to text and back.
+// Angles of a whole number of degrees, which cross to text and back. These are functions, since `TryFrom` between two types of std
+// cannot be implemented here.
 ghost use Rattle.std.specs.Prelude.{◌≡◌, from_bits};
 ghost use Rattle.std.specs.Float.{binary32};
 ghost use Rattle.pose.specs.Degrees.{angle_of, whole_of, Whole, Exact};
@@ -12,10 +13,11 @@ pub fn from_degrees(degrees: i32) -> Option<f32>
     ensures value { result ≡ angle_of degrees }
     ensures exact { Exact degrees result }
 {
-    if degrees < -TURN || degrees > TURN {
-        return None;
+    if (-TURN..=TURN).contains(&degrees) {
+        Some(degrees as f32)
+    } else {
+        None
     }
-    Some(degrees as f32)
 }
 
 // The whole number of degrees from -360 to 360 that an angle is, or none; negative zero is 0 degrees.
@@ -24,14 +26,7 @@ pub fn whole_degrees(angle: f32) -> Option<i32>
     ensures means { Whole angle result }
 {
     let nearest = saturating_f32_to_i32(angle);
-    if nearest < -TURN || nearest > TURN {
-        return None;
-    }
-    if angle == nearest as f32 {
-        Some(nearest)
-    } else {
-        None
-    }
+    ((-TURN..=TURN).contains(&nearest) && angle == nearest as f32).then_some(nearest)
 }
 
 // The same of an angle given by its bits; none where they are no number.

@@ -5,7 +5,7 @@ mod degrees;
 mod poses;
 
 pub use degrees::{bits_to_degrees, from_degrees, whole_degrees};
-pub use poses::{Pose, PoseBits, from_bits, to_bits};
+pub use poses::{NotANumber, Pose, PoseBits};
 
 #[cfg(test)]
 mod tests;

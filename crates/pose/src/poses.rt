@@ -1,12 +1,12 @@
 // A pose and its bits. Lines and stores carry the bits, and two poses are alike where these are.
-ghost use Rattle.std.specs.Prelude.{◌≡◌, Some, None};
+ghost use Rattle.std.specs.Prelude.{◌≡◌, Ok, Err};
 ghost use Rattle.std.specs.Float.Ieee as Ieee;
 ghost use Rattle.std.specs.Float.{binary32};
-ghost use Rattle.pose.specs.Bits.{angle_bits, angle_at, bits_of, pose_of, ComesBack, GoesBack};
+ghost use Rattle.pose.specs.Bits.{angle_bits, angle_at, IsBitsOf, IsPoseOf};
 
 use std::num::{f32_from_bits_with_nan, f32_to_bits_with_nan};
 
-// Four joint angles in degrees.
+// Four joint angles in degrees. A struct of its own and no instance of a generic one, as a rule of the project has it.
 #[derive(Clone, Copy)]
 pub struct Pose {
     pub joint0: f32,
@@ -16,13 +16,17 @@ pub struct Pose {
 }
 
 // The bits of four joint angles.
-#[derive(Clone, Copy, PartialEq, Eq)]
+#[derive(Clone, Copy, Debug, PartialEq, Eq)]
 pub struct PoseBits {
     pub joint0: u32,
     pub joint1: u32,
     pub joint2: u32,
     pub joint3: u32,
 }
+
+// Why bits make no pose: those of an angle are no number.
+#[derive(Clone, Copy, Debug, PartialEq, Eq)]
+pub struct NotANumber;
 
 // The bits of an angle; one that is not a number has the bits 0x7FC00000.
 fn angle_to_bits(angle: f32) -> u32
@@ -40,43 +44,43 @@ fn are_nan(bits: u32) -> bool
     0x7f80_0000 < bits % 0x8000_0000
 }
 
-// The angle with these bits, or none where they are no number.
-fn angle_from_bits(bits: u32) -> Option<f32>
+// The angle with these bits, where they are a number.
+fn angle_from_bits(bits: u32) -> Result<f32, NotANumber>
     ensures value { result ≡ angle_at bits }
-    ensures back { elim result [ Some x ↦ angle_bits x ≡ bits | None ↦ Unit {0} ] }
+    ensures back { elim result [ Ok x ↦ angle_bits x ≡ bits | Err _ ↦ Unit {0} ] }
 {
     if are_nan(bits) {
-        return None;
+        return Err(NotANumber);
     }
-    Some(f32_from_bits_with_nan(bits))
+    Ok(f32_from_bits_with_nan(bits))
 }
 
-// The bits of a pose.
-pub fn to_bits(pose: Pose) -> PoseBits
-    ensures value { result ≡ bits_of pose }
-    ensures back { ComesBack pose result }
-{
-    PoseBits {
-        joint0: angle_to_bits(pose.joint0),
-        joint1: angle_to_bits(pose.joint1),
-        joint2: angle_to_bits(pose.joint2),
-        joint3: angle_to_bits(pose.joint3),
+// A pose has bits, and they give it back.
+impl From<Pose> for PoseBits {
+    ghost from_gives = { IsBitsOf };
+
+    fn from(pose: Pose) -> PoseBits {
+        PoseBits {
+            joint0: angle_to_bits(pose.joint0),
+            joint1: angle_to_bits(pose.joint1),
+            joint2: angle_to_bits(pose.joint2),
+            joint3: angle_to_bits(pose.joint3),
+        }
     }
 }
 
-// The pose with these bits, or none where an angle's bits are no number.
-pub fn from_bits(bits: PoseBits) -> Option<Pose>
-    ensures value { result ≡ pose_of bits }
-    ensures back { GoesBack bits result }
-{
-    let joint0 = angle_from_bits(bits.joint0)?;
-    let joint1 = angle_from_bits(bits.joint1)?;
-    let joint2 = angle_from_bits(bits.joint2)?;
-    let joint3 = angle_from_bits(bits.joint3)?;
-    Some(Pose {
-        joint0,
-        joint1,
-        joint2,
-        joint3,
-    })
+// Bits make a pose where each angle's bits are a number, and it has these bits.
+impl TryFrom<PoseBits> for Pose {
+    type Error = NotANumber;
+
+    ghost try_from_gives = { IsPoseOf };
+
+    fn try_from(bits: PoseBits) -> Result<Pose, NotANumber> {
+        Ok(Pose {
+            joint0: angle_from_bits(bits.joint0)?,
+            joint1: angle_from_bits(bits.joint1)?,
+            joint2: angle_from_bits(bits.joint2)?,
+            joint3: angle_from_bits(bits.joint3)?,
+        })
+    }
 }

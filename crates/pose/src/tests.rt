@@ -31,7 +31,7 @@ fn angles_have_their_bits_and_degrees(rt: HostRuntime) {
             joint3: angle,
         };
         assert!(rt;
-            to_bits(pose)
+            PoseBits::from(pose)
                 == PoseBits {
                     joint0: bits,
                     joint1: bits,
@@ -74,7 +74,7 @@ fn bits_of_no_number_make_no_pose(rt: HostRuntime) {
             },
         ];
         for pose in angles {
-            assert_eq!(rt; from_bits(pose).is_none(), none);
+            assert_eq!(rt; Pose::try_from(pose).is_err(), none);
         }
     }
 }
@@ -82,7 +82,7 @@ fn bits_of_no_number_make_no_pose(rt: HostRuntime) {
 #[test]
 fn an_angle_that_is_no_number_has_the_quiet_bits(rt: HostRuntime) {
     let missing = 0.0f32 / 0.0;
-    let bits = to_bits(Pose {
+    let bits = PoseBits::from(Pose {
         joint0: 1.0,
         joint1: missing,
         joint2: 0.0,
@@ -100,6 +100,7 @@ fn an_angle_that_is_no_number_has_the_quiet_bits(rt: HostRuntime) {
 
 #[test]
 fn whole_degrees_come_back(rt: HostRuntime) {
+    // The numbers themselves are tried.
     for degrees in -362..=362 {
         match from_degrees(degrees) {
             Some(angle) => assert_eq!(rt; whole_degrees(angle), Some(degrees)),

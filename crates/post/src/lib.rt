@@ -4,4 +4,4 @@
 mod calls;
 mod parts;
 
-pub use parts::Post;
+pub use parts::{NoRoom, Post};

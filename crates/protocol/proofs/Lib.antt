@@ -1,2 +1,3 @@
 pub mod TallyMeans
 pub mod VoteMeans
+pub mod SiteNumbers

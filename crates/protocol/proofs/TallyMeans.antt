@@ -1,5 +1,5 @@
 -- What the tally's formula means.
-use Rattle.std.proofs.Common.{◌≡◌, ℕ, ◌≤◌, Bool, true, false, cond, leb, Some, None, Option, sym, refl, ap, ◌∙◌, arith}
+use Rattle.std.proofs.Common.{◌≡◌, ℕ, ◌≤◌, Bool, true, false, cond, leb, Some, None, Option, sym, refl, ap, ◌∙◌, subst, arith}
 use Rattle.std.proofs.lemmas.Bool.Decides.{nat_tests}
 use Rattle.protocol.specs.declared.messages.Range.{Range}
 use Rattle.protocol.specs.declared.messages.Decision.TheVariants.{Commit, Abort}
@@ -62,3 +62,13 @@ tally_means v = go (under_all v (time_over v)) refl
     go : (b : Bool) → under_all v (time_over v) ≡ b → Tallies v (cond b (Commit (time_over v)) Abort)
     go true e = (time_in_lem v e, time_least v)
     go false e = none_in v e
+
+-- at a tick that is the greatest EARLIEST
+pub first_in : (v : PerSite (Option Range)) (t : ℕ) → t ≡ time_over v → under_all v t ≡ true → InEvery v t
+first_in v t e h = subst (InEvery v) (sym e) (time_in_lem v (ap (under_all v) (sym e) ∙ h))
+
+pub first_least : (v : PerSite (Option Range)) (t : ℕ) → t ≡ time_over v → (u : ℕ) → InEvery v u → t ≤ u
+first_least v t e u k = let h = time_least v u k in omega (arith, e, h)
+
+pub first_none : (v : PerSite (Option Range)) (t : ℕ) → t ≡ time_over v → under_all v t ≡ false → Tallies v Abort
+first_none v t e h = none_in v (ap (under_all v) (sym e) ∙ h)

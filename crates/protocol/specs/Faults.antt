@@ -1,12 +1,17 @@
 -- Each refusal's number, layer and detail.
-use Rattle.std.specs.Prelude.{ℕ}
+use Rattle.std.specs.Prelude.{ℕ, Result, ok_or}
+use Rattle.protocol.specs.declared.sites.Site.{Site}
 use Rattle.protocol.specs.declared.faults.Layer.{Layer}
 use Rattle.protocol.specs.declared.faults.Layer.TheVariants.{Line, Cell, Store}
 use Rattle.protocol.specs.declared.faults.CellFault.TheVariants.{NotActive, NoItem, Held, NoRow}
 use Rattle.protocol.specs.declared.faults.Fault.{Fault}
 use Rattle.protocol.specs.declared.faults.Fault.TheVariants.{NotLive, NoCell, WrongStage, NoneJoined, AtCell, NoRoom, TooManyLive, NumbersUsed, NoMessage, TooLate}
 use Rattle.protocol.specs.Limits.{live_limit, opened_limit}
-use Rattle.protocol.specs.Sites.{number_at}
+use Rattle.protocol.specs.Sites.{number_at, site_of}
+
+-- the cell with the number, or the refusal where there is none
+abbrev pub site_at : ℕ → Result Site Fault
+site_at n = ok_or (site_of n) (NoCell n)
 
 abbrev pub number_of : Fault → ℕ
 number_of (NotLive x) = 1

@@ -1,5 +1,5 @@
 -- The four cells of a line, and one thing for each of them.
-use Rattle.std.specs.Prelude.{ℕ, ◌+◌, Bool, cond, not, ◌&&◌, Some, None, Option, ◌==◌}
+use Rattle.std.specs.Prelude.{ℕ, ◌+◌, Bool, cond, not, ◌&&◌, Some, None, Option, ◌==◌, List, [], ◌∷◌}
 use Rattle.protocol.specs.declared.sites.Site.{Site}
 use Rattle.protocol.specs.declared.sites.Site.TheVariants.{Cell0, Cell1, Cell2, Cell3}
 use Rattle.protocol.specs.declared.sites.PerSite.{PerSite}
@@ -27,6 +27,10 @@ put_at e Cell3 x = record { cell0 = e.cell0; cell1 = e.cell1; cell2 = e.cell2; c
 
 abbrev pub of_all : {X : Type 0} → X → PerSite X
 of_all x = record { cell0 = x; cell1 = x; cell2 = x; cell3 = x }
+
+-- the four things as a list, from cell 0 on
+abbrev pub each_of : {X : Type 0} → PerSite X → List X
+each_of e = e.cell0 ∷ (e.cell1 ∷ (e.cell2 ∷ (e.cell3 ∷ [])))
 
 abbrev pub one : Bool → ℕ
 one b = cond b 1 0

@@ -2,15 +2,16 @@
 use crate::messages::{Decision, Range};
 
 // Where a transaction stands with the coordinator; the answer of `fate`.
-#[derive(Clone, Copy)]
+#[derive(Clone, Copy, Debug, Default, PartialEq, Eq)]
 pub enum Stage {
+    #[default]
     Open,
     Polling,
     Decided(Decision),
 }
 
 // What a delivery came to.
-#[derive(Clone, Copy)]
+#[derive(Clone, Copy, Debug, PartialEq, Eq)]
 pub enum Delivery {
     // The cell votes yes with this range.
     Ranged(Range),

@@ -1,8 +1,7 @@
 // The twelve calls of a line as data, and what they answer.
 use crate::answers::{Delivery, Stage};
-use crate::faults::Fault;
 
-#[derive(Clone, Copy)]
+#[derive(Clone, Copy, Debug, PartialEq, Eq)]
 pub enum Call<P> {
     Open,
     Join(u64, usize),
@@ -18,7 +17,8 @@ pub enum Call<P> {
     Fate(u64),
 }
 
-#[derive(Clone, Copy)]
+// What a call gives that is not refused.
+#[derive(Clone, Copy, Debug, PartialEq, Eq)]
 pub enum Answer<P> {
     Accepted,
     // The number of a new transaction, or how many messages were sent.
@@ -27,5 +27,4 @@ pub enum Answer<P> {
     Payload(Option<P>),
     Delivered(Delivery),
     Stands(Stage),
-    Refused(Fault),
 }

@@ -6,7 +6,7 @@ use crate::limits::{LIVE_LIMIT, OPENED_LIMIT};
 use crate::sites::Site;
 
 // Who refuses.
-#[derive(Clone, Copy)]
+#[derive(Clone, Copy, Debug, PartialEq, Eq)]
 pub enum Layer {
     Line,
     Cell,
@@ -14,7 +14,7 @@ pub enum Layer {
 }
 
 // Refusals that arise at a cell.
-#[derive(Clone, Copy)]
+#[derive(Clone, Copy, Debug, PartialEq, Eq)]
 pub enum CellFault {
     // The transaction is not Active there; for a join, it has joined already.
     NotActive,
@@ -26,7 +26,7 @@ pub enum CellFault {
     NoRow(usize),
 }
 
-#[derive(Clone, Copy)]
+#[derive(Clone, Copy, Debug, PartialEq, Eq)]
 pub enum Fault {
     // No live transaction has the number.
     NotLive(u64),
@@ -43,6 +43,7 @@ pub enum Fault {
     TooLate(u64),
 }
 
+// The numbers that the output has for each fault: methods, since callers match on the fault and only the output wants its numbers.
 impl Fault {
     pub fn number(self) -> u64
         ensures { result ≡ number_of self }
@@ -82,7 +83,7 @@ impl Fault {
             Fault::NoCell(cell) => cell as u64,
             Fault::WrongStage(tx) => tx,
             Fault::NoneJoined(tx) => tx,
-            Fault::AtCell(site, CellFault::NotActive) => site.number(),
+            Fault::AtCell(site, CellFault::NotActive) => u64::from(site),
             Fault::AtCell(_, CellFault::NoItem(item)) => item as u64,
             Fault::AtCell(_, CellFault::Held(tx)) => tx,
             Fault::AtCell(_, CellFault::NoRow(item)) => item as u64,

@@ -24,39 +24,35 @@ pub fn cast_vote(greatest: u64, start: u64, clock: u64, spread: u64) -> Vote
 fn floor(vote: Option<Range>) -> u64
     ensures { result ≡ floor_of vote }
 {
-    match vote {
-        Some(range) => range.earliest,
-        None => 0,
-    }
+    vote.map_or(0, |range| range.earliest)
 }
 
 fn allows(vote: Option<Range>, time: u64) -> bool
     ensures { result ≡ under vote time }
 {
-    match vote {
-        Some(range) => time <= range.latest,
-        None => true,
-    }
+    vote.is_none_or(|range| time <= range.latest)
 }
 
 // The greatest EARLIEST voted.
 fn first_time(votes: &PerSite<Option<Range>>) -> u64
     ensures { result ≡ time_over votes.now }
 {
-    floor(votes.cell0)
-        .max(floor(votes.cell1))
-        .max(floor(votes.cell2).max(floor(votes.cell3)))
+    votes
+        .map(floor)
+        .into_array()
+        .iter()
+        .fold(0, |time, floor| time.max(*floor))
 }
 
 // Whether the tick is at most the least LATEST voted.
 fn all_allow(votes: &PerSite<Option<Range>>, time: u64) -> bool
     ensures { result ≡ under_all votes.now time }
 {
-    (allows(votes.cell0, time) && allows(votes.cell1, time))
-        && (allows(votes.cell2, time) && allows(votes.cell3, time))
+    votes.into_array().iter().all(|vote| allows(*vote, time))
 }
 
 // The decision over votes that are all yes: the first tick that lies in every range, or an abort where there is none.
+#[tactic(auto, using(crate::proofs::TallyMeans::first_in, crate::proofs::TallyMeans::first_least, crate::proofs::TallyMeans::first_none))]
 pub fn tally(votes: &PerSite<Option<Range>>) -> Decision
     ensures value { result ≡ tallied votes.now }
     ensures means { Tallies votes.now result }

@@ -1,2 +1,2 @@
 mod Fresh
-mod Printing
+pub mod Lines

@@ -1,3 +1,4 @@
 pub mod Running
 pub mod Answers
 pub mod Sessions
+pub mod Scripts

@@ -2,9 +2,10 @@
 #![tactic(auto)]
 
 mod answering;
-mod lines;
 mod making;
+mod running;
 mod session;
 
-pub use lines::line_end;
+pub use answer_text::LONGEST_SCRIPT;
+pub use running::{first_line, run};
 pub use session::{Session, too_long};

@@ -5,7 +5,7 @@ mod replies;
 
 pub use replies::too_long;
 
-// A script from its first line on.
+// A script from its first line on. An enum, which can have no `impl Model` yet, so that clauses say `session_view`.
 #[derive(Drop)]
 pub enum Session {
     NoKind,

@@ -17,7 +17,6 @@ pub mod Reports
 pub mod Deliveries
 pub mod Start
 pub mod Theorem
-pub mod Refusals
 pub mod Sorted
 pub mod Records
 pub mod Changes

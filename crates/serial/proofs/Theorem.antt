@@ -2,9 +2,8 @@
 use Rattle.std.proofs.Common.{◌≡◌, ℕ, List, [], ◌∷◌, sym, refl, subst}
 use Rattle.protocol.specs.declared.calls.Call.{Call}
 use Rattle.protocol.specs.declared.calls.Call.TheVariants.{Open, Join, Read, Write, Leave, Submit, GiveUp, Resend, Deliver, Lose, Clock, Fate}
-use Rattle.protocol.specs.declared.calls.Answer.{Answer}
 use Rattle.model.specs.Lines.{LineView}
-use Rattle.model.specs.Calls.{told, did}
+use Rattle.model.specs.Calls.{Outcome, told, did}
 use Rattle.serial.specs.Observer.{note}
 use Rattle.serial.specs.Order.{Chosen, SerialOrder}
 use Rattle.serial.specs.Runs.{Event, event, Reached, seen, newest_on, AlwaysSerial, Onward, Does}
@@ -49,10 +48,10 @@ always_serial_lem h v r = let n = run h v r in subst (SerialOrder (newest_on v))
 pub always_ordered_lem : {P : Type 0} → AlwaysOrdered P
 always_ordered_lem {P} h v r = let n = run h v r in subst (λ o. (xs : List ℕ) × Chosen o xs) n.1 (chosen v n.0 n.2)
 
-pub onward : {P : Type 0} (v : LineView P) (c : Call P) (a : Answer P) (w : LineView P) → a ≡ told v c → w ≡ did v c → Onward v c a w
+pub onward : {P : Type 0} (v : LineView P) (c : Call P) (a : Outcome P) (w : LineView P) → a ≡ told v c → w ≡ did v c → Onward v c a w
 onward v c a w e f h r = ((v, f, e, r), always_serial_lem (event c a ∷ h) w (v, f, e, r))
 
-pub does : {P : Type 0} (v : LineView P) (c : Call P) (a : Answer P) (w : LineView P) → a ≡ told v c → w ≡ did v c → Does v c a w
+pub does : {P : Type 0} (v : LineView P) (c : Call P) (a : Outcome P) (w : LineView P) → a ≡ told v c → w ≡ did v c → Does v c a w
 does v c a w e f = record { answer = e; after = f; runs = onward v c a w e f }
 
 pub always_bounded_lem : {P : Type 0} → AlwaysBounded P

@@ -1,10 +1,9 @@
 -- Laws over whole runs of a line besides serial order, and over each call.
-use Rattle.std.specs.Prelude.{◌≡◌, ℕ, ◌≤◌, true, List, length, Some, Option}
+use Rattle.std.specs.Prelude.{◌≡◌, ℕ, ◌≤◌, true, List, length, Some, Option, Err}
 use Rattle.protocol.specs.declared.sites.Site.{Site}
 use Rattle.protocol.specs.declared.messages.Range.{Range}
 use Rattle.protocol.specs.declared.faults.Fault.{Fault}
 use Rattle.protocol.specs.declared.calls.Call.{Call}
-use Rattle.protocol.specs.declared.calls.Answer.TheVariants.{Refused}
 use Rattle.protocol.specs.Limits.{live_limit, post_limit}
 use Rattle.protocol.specs.Sites.{at}
 use Rattle.model.specs.Lines.{LineView}
@@ -38,4 +37,4 @@ AlwaysVoted P = (h : List (Event P)) (v : LineView P) → Reached v h → TimesV
 
 -- a refused call changes nothing
 abbrev pub RefusalsKeep : Type 0 → Type 0
-RefusalsKeep P = (v : LineView P) (c : Call P) (f : Fault) → told v c ≡ Refused f → did v c ≡ v
+RefusalsKeep P = (v : LineView P) (c : Call P) (f : Fault) → told v c ≡ Err f → did v c ≡ v

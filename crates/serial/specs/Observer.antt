@@ -1,5 +1,5 @@
 -- What an observer knows who is told each call with its answer, and nothing of the line's records. It forgets nothing.
-use Rattle.std.specs.Prelude.{ℕ, Bool, true, false, cond, ◌||◌, List, [], ◌∷◌, ◌++◌, Some, None, Option, ◌==◌}
+use Rattle.std.specs.Prelude.{ℕ, Bool, true, false, cond, ◌||◌, List, [], ◌∷◌, ◌++◌, Some, None, Option, Ok, Err, is_ok, ◌==◌}
 use Rattle.std.specs.List.{remove}
 use Rattle.protocol.specs.declared.sites.Site.{Site}
 use Rattle.protocol.specs.declared.messages.Vote.TheVariants.{Yes, No}
@@ -17,13 +17,14 @@ use Rattle.protocol.specs.declared.answers.Delivery.TheVariants.{Ranged, Decline
 use Rattle.protocol.specs.declared.calls.Call.{Call}
 use Rattle.protocol.specs.declared.calls.Call.TheVariants.{Open, Join, Read, Write, Leave, Submit, GiveUp, Resend, Deliver, Lose, Clock, Fate}
 use Rattle.protocol.specs.declared.calls.Answer.{Answer}
-use Rattle.protocol.specs.declared.calls.Answer.TheVariants.{Accepted, Number, Payload, Delivered, Stands, Refused}
+use Rattle.protocol.specs.declared.calls.Answer.TheVariants.{Accepted, Number, Payload, Delivered, Stands}
 use Rattle.protocol.specs.Sites.{site_of, number_at}
 use Rattle.table.specs.Contents.{nth_in}
 use Rattle.store.specs.Meaning.{with}
 use Rattle.coordinator.specs.declared.kinds.Transaction.{Transaction}
 use Rattle.coordinator.specs.Steps.{opened, at_stage, with_join, with_vote, with_ack, missing, repeated}
 use Rattle.model.specs.Lines.{letter, orders_to}
+use Rattle.model.specs.Calls.{Outcome}
 
 abbrev pub same_site : Site → Site → Bool
 same_site s z = number_at s == number_at z
@@ -129,42 +130,40 @@ see_arrival o None a = o
 see_arrival o (Some m) a = if_some o (see_body o m.tx m.site m.body) a
 
 -- what an answer says
-abbrev pub accepts : {P : Type 0} → Answer P → Bool
-accepts Accepted = true
-accepts (Number n) = true
-accepts (Payload p) = true
-accepts (Delivered d) = true
-accepts (Stands t) = true
-accepts (Refused f) = false
+abbrev pub payload_given : {P : Type 0} → Answer P → Option (Option P)
+payload_given Accepted = None
+payload_given (Number n) = None
+payload_given (Payload p) = Some p
+payload_given (Delivered d) = None
+payload_given (Stands t) = None
 
-abbrev pub payload_in : {P : Type 0} → Answer P → Option (Option P)
-payload_in Accepted = None
-payload_in (Number n) = None
-payload_in (Payload p) = Some p
-payload_in (Delivered d) = None
-payload_in (Stands t) = None
-payload_in (Refused f) = None
+abbrev pub delivery_given : {P : Type 0} → Answer P → Option Delivery
+delivery_given Accepted = None
+delivery_given (Number n) = None
+delivery_given (Payload p) = None
+delivery_given (Delivered d) = Some d
+delivery_given (Stands t) = None
 
-abbrev pub delivery_in : {P : Type 0} → Answer P → Option Delivery
-delivery_in Accepted = None
-delivery_in (Number n) = None
-delivery_in (Payload p) = None
-delivery_in (Delivered d) = Some d
-delivery_in (Stands t) = None
-delivery_in (Refused f) = None
+abbrev pub payload_in : {P : Type 0} → Outcome P → Option (Option P)
+payload_in (Ok a) = payload_given a
+payload_in (Err f) = None
+
+abbrev pub delivery_in : {P : Type 0} → Outcome P → Option Delivery
+delivery_in (Ok a) = delivery_given a
+delivery_in (Err f) = None
 
 -- a call and its answer
-abbrev pub note : {P : Type 0} → Seen P → Call P → Answer P → Seen P
+abbrev pub note : {P : Type 0} → Seen P → Call P → Outcome P → Seen P
 note o Open a = o
-note o (Join x c) a = cond (accepts a) (if_some o (λ s. see_tx o x (with_join (o.transaction x) s)) (site_of c)) o
+note o (Join x c) a = cond (is_ok a) (if_some o (λ s. see_tx o x (with_join (o.transaction x) s)) (site_of c)) o
 note o (Read x c i) a = if_some o (λ p. if_some o (λ s. see_use o x s (Got i p)) (site_of c)) (payload_in a)
-note o (Write x c i p) a = cond (accepts a) (if_some o (λ s. see_use o x s (Put i p)) (site_of c)) o
+note o (Write x c i p) a = cond (is_ok a) (if_some o (λ s. see_use o x s (Put i p)) (site_of c)) o
 note o (Leave x c) a = o
-note o (Submit x) a = cond (accepts a) (see_turn o x (o.transaction x) Polling Prepare) o
-note o (GiveUp x) a = cond (accepts a) (see_turn o x (o.transaction x) (Decided Abort) (Decide Abort)) o
-note o (Resend x) a = cond (accepts a) (see_sent o (orders_to (missing (o.transaction x) (o.transaction x).stage) x (repeated (o.transaction x).stage))) o
+note o (Submit x) a = cond (is_ok a) (see_turn o x (o.transaction x) Polling Prepare) o
+note o (GiveUp x) a = cond (is_ok a) (see_turn o x (o.transaction x) (Decided Abort) (Decide Abort)) o
+note o (Resend x) a = cond (is_ok a) (see_sent o (orders_to (missing (o.transaction x) (o.transaction x).stage) x (repeated (o.transaction x).stage))) o
 note o (Deliver k) a = see_arrival o (nth_in o.post k) (delivery_in a)
-note o (Lose k) a = cond (accepts a) (see_post o (remove o.post k)) o
+note o (Lose k) a = cond (is_ok a) (see_post o (remove o.post k)) o
 note o (Clock c t) a = o
 note o (Fate x) a = o
 

@@ -2,21 +2,20 @@
 use Rattle.std.specs.Prelude.{◌≡◌, ℕ, ◌≤◌, List, [], ◌∷◌, None, Option}
 use Rattle.protocol.specs.declared.sites.Site.{Site}
 use Rattle.protocol.specs.declared.calls.Call.{Call}
-use Rattle.protocol.specs.declared.calls.Answer.{Answer}
 use Rattle.protocol.specs.Limits.{item_limit}
 use Rattle.protocol.specs.Sites.{at}
 use Rattle.model.specs.Cells.{newest_at}
 use Rattle.model.specs.Lines.{LineView}
-use Rattle.model.specs.Calls.{told, did}
+use Rattle.model.specs.Calls.{Outcome, told, did}
 use Rattle.serial.specs.Observer.{Seen, note, nothing}
 use Rattle.serial.specs.Order.{SerialOrder}
 
 -- a call with its answer
 pub record Event (P : Type 0) : Type 0 where
   pub call : Call P
-  pub answer : Answer P
+  pub answer : Outcome P
 
-abbrev pub event : {P : Type 0} → Call P → Answer P → Event P
+abbrev pub event : {P : Type 0} → Call P → Outcome P → Event P
 event c a = record { call = c; answer = a }
 
 -- a line that was just made, over any four stores
@@ -53,11 +52,11 @@ abbrev pub AlwaysSerial : Type 0 → Type 0
 AlwaysSerial P = (h : List (Event P)) (v : LineView P) → Reached v h → Serial v h
 
 -- a call goes on with every run that led to it
-abbrev pub Onward : {P : Type 0} → LineView P → Call P → Answer P → LineView P → Type 0
+abbrev pub Onward : {P : Type 0} → LineView P → Call P → Outcome P → LineView P → Type 0
 Onward {P} v c a w = (h : List (Event P)) → Reached v h → Reached w (event c a ∷ h) × Serial w (event c a ∷ h)
 
 -- what a call does: its answer, the line after it, and every run that it goes on with
-pub record Does {P : Type 0} (v : LineView P) (c : Call P) (a : Answer P) (w : LineView P) : Type 0 where
+pub record Does {P : Type 0} (v : LineView P) (c : Call P) (a : Outcome P) (w : LineView P) : Type 0 where
   pub answer : a ≡ told v c
   pub after : w ≡ did v c
   pub runs : Onward v c a w

@@ -1,5 +1,5 @@
 -- What an accepted call had, and that a refused one leaves all as it was.
-use Rattle.std.proofs.Common.{◌≡◌, ℕ, ◌<◌, Bool, true, false, cond, ltb, List, is_some, is_ok, Some, None, Ok, Err, Option, Result, refl, ap}
+use Rattle.std.proofs.Common.{◌≡◌, ℕ, ◌<◌, Bool, true, false, cond, ltb, List, is_some, is_ok, is_err, Some, None, Ok, Err, Option, Result, refl, ap}
 use borrow.Author.Tests.{clash}
 use Rattle.std.proofs.lemmas.Bool.{ltb-true}
 use Rattle.store.specs.declared.Version.{Version}
@@ -7,8 +7,7 @@ use Rattle.store.specs.declared.Refusal.{Refusal}
 use Rattle.store.specs.Meaning.{with, grown, stage_answer, unstage_answer, install_answer}
 use Rattle.store_runs.specs.declared.StoreCall.{StoreCall}
 use Rattle.store_runs.specs.declared.StoreCall.TheVariants.{Newest, Staged, Stage, Unstage, Install, Clear}
-use Rattle.store_runs.specs.Ledger.{is_refused}
-use Rattle.store_runs.specs.Plain.{Plain, plain, change_answer, answer_to, after_call}
+use Rattle.store_runs.specs.Plain.{Plain, plain, changed, answer_to, after_call}
 
 -- a test that a call passes to be accepted
 passed : {X : Type 0} (b : Bool) (x : Result X Refusal) (why : Refusal) → is_ok (cond b x (Err why)) ≡ true → (b ≡ true) × (is_ok x ≡ true)
@@ -25,12 +24,12 @@ pub install_within : {P : Type 0} (w : ℕ) (h : ℕ → List (Version P)) (s : 
 install_within w h s i t e =
     let a = passed (ltb i w) _ _ e in (ltb-true i w a.0, (passed (is_some (s i)) _ _ a.1).0)
 
-of_refused : (P : Type 0) (r : Result Unit Refusal) → is_refused (change_answer {P = P} r) ≡ true → is_ok r ≡ false
+of_refused : (P : Type 0) (r : Result Unit Refusal) → is_err (changed {P = P} r) ≡ true → is_ok r ≡ false
 of_refused P (Ok u) e = absurd (clash e)
 of_refused P (Err why) e = refl
 
 -- a refusal changes nothing
-pub refused_same : {P : Type 0} (m : Plain P) (c : StoreCall P) → is_refused (answer_to m c) ≡ true → after_call m c ≡ m
+pub refused_same : {P : Type 0} (m : Plain P) (c : StoreCall P) → is_err (answer_to m c) ≡ true → after_call m c ≡ m
 refused_same m (Newest i) e = refl
 refused_same m (Staged i) e = refl
 refused_same {P = P} m (Stage i p) e =

@@ -1,18 +1,9 @@
 -- The rows of a plain store, and what a call takes of them and gives back.
-use Rattle.std.specs.Prelude.{ℕ, ◌-◌, Bool, true, false, cond, is_ok}
+use Rattle.std.specs.Prelude.{ℕ, ◌-◌, cond, is_ok}
 use Rattle.store.specs.Meaning.{held, used, stage_answer, unstage_answer}
 use Rattle.store_runs.specs.declared.StoreCall.{StoreCall}
 use Rattle.store_runs.specs.declared.StoreCall.TheVariants.{Newest, Staged, Stage, Unstage, Install, Clear}
-use Rattle.store_runs.specs.declared.StoreAnswer.{StoreAnswer}
-use Rattle.store_runs.specs.declared.StoreAnswer.TheVariants.{Version, Payload, Done, Refused}
 use Rattle.store_runs.specs.Plain.{Plain}
-
--- whether an answer is a refusal
-abbrev pub is_refused : {P : Type 0} → StoreAnswer P → Bool
-is_refused (Version v) = false
-is_refused (Payload p) = false
-is_refused Done = false
-is_refused (Refused why) = true
 
 -- the rows in use: one for each version and each staged payload
 abbrev pub used_rows : {P : Type 0} → Plain P → ℕ

@@ -6,8 +6,8 @@ use Rattle.store.specs.declared.Store.{Ghosts}
 use Rattle.store.specs.Meaning.{with, grown, newest_answer, staged_answer, stage_answer, unstage_answer, install_answer}
 use Rattle.store_runs.specs.declared.StoreCall.{StoreCall}
 use Rattle.store_runs.specs.declared.StoreCall.TheVariants.{Newest, Staged, Stage, Unstage, Install, Clear}
-use Rattle.store_runs.specs.declared.StoreAnswer.{StoreAnswer}
-use Rattle.store_runs.specs.declared.StoreAnswer.TheVariants.{Version as Versioned, Payload, Done, Refused}
+use Rattle.store_runs.specs.declared.StoreReply.{StoreReply}
+use Rattle.store_runs.specs.declared.StoreReply.TheVariants.{Version as Versioned, Payload, Done}
 
 -- the number of items, the capacity, and for each item its versions and its staged payload
 pub record Plain (P : Type 0) : Type 0 where
@@ -20,34 +20,34 @@ abbrev pub plain : {P : Type 0} → ℕ → ℕ → (ℕ → List (Version P)) �
 plain wide rows history pending = record { wide = wide; rows = rows; history = history; pending = pending }
 
 -- what a store means at a time
-abbrev pub meant : {S P I : Type 0} → Ghosts S P I → S → Plain P
-meant g s = plain g.width (g.capacity s) (g.versions s) (g.stagings s)
+abbrev pub meant : {S P : Type 0} → Ghosts S P → S → Plain P
+meant g s = plain g.K (g.capacity s) (g.versions s) (g.stagings s)
 
 -- a store that was cleared
 abbrev pub cleared : {P : Type 0} → Plain P → Plain P
 cleared m = plain m.wide m.rows (λ _. []) (λ _. None)
 
+-- what an accepted call replies, or why it is refused
+abbrev pub Answer : Type 0 → Type 0
+Answer P = Result (StoreReply P) Refusal
+
 -- a result as an answer
-abbrev pub version_answer : {P : Type 0} → Result (Option (Version P)) Refusal → StoreAnswer P
-version_answer (Ok v) = Versioned v
-version_answer (Err why) = Refused why
+abbrev pub replied : {X P : Type 0} → (X → StoreReply P) → Result X Refusal → Answer P
+replied reply (Ok x) = Ok (reply x)
+replied reply (Err why) = Err why
 
-abbrev pub payload_answer : {P : Type 0} → Result (Option P) Refusal → StoreAnswer P
-payload_answer (Ok p) = Payload p
-payload_answer (Err why) = Refused why
-
-abbrev pub change_answer : {P : Type 0} → Result Unit Refusal → StoreAnswer P
-change_answer (Ok done) = Done
-change_answer (Err why) = Refused why
+-- a change that was made replies nothing
+abbrev pub changed : {P : Type 0} → Result Unit Refusal → Answer P
+changed r = replied (λ _. Done) r
 
 -- what the plain store answers to a call
-abbrev pub answer_to : {P : Type 0} → Plain P → StoreCall P → StoreAnswer P
-answer_to m (Newest i) = version_answer (newest_answer m.wide m.history i)
-answer_to m (Staged i) = payload_answer (staged_answer m.wide m.pending i)
-answer_to m (Stage i p) = change_answer (stage_answer m.wide m.rows m.history m.pending i)
-answer_to m (Unstage i) = change_answer (unstage_answer m.wide m.pending i)
-answer_to m (Install i t) = change_answer (install_answer m.wide m.history m.pending i t)
-answer_to m Clear = Done
+abbrev pub answer_to : {P : Type 0} → Plain P → StoreCall P → Answer P
+answer_to m (Newest i) = replied Versioned (newest_answer m.wide m.history i)
+answer_to m (Staged i) = replied Payload (staged_answer m.wide m.pending i)
+answer_to m (Stage i p) = changed (stage_answer m.wide m.rows m.history m.pending i)
+answer_to m (Unstage i) = changed (unstage_answer m.wide m.pending i)
+answer_to m (Install i t) = changed (install_answer m.wide m.history m.pending i t)
+answer_to m Clear = Ok Done
 
 -- the plain store after a call
 abbrev pub after_call : {P : Type 0} → Plain P → StoreCall P → Plain P
@@ -65,7 +65,7 @@ after_call m (Install i t) =
 after_call m Clear = cleared m
 
 -- what the plain store answers to a list of calls, and what it is after them
-abbrev pub answers_to : {P : Type 0} → Plain P → List (StoreCall P) → List (StoreAnswer P)
+abbrev pub answers_to : {P : Type 0} → Plain P → List (StoreCall P) → List (Answer P)
 answers_to m [] = []
 answers_to m (c ∷ cs) = answer_to m c ∷ answers_to (after_call m c) cs
 

@@ -1,16 +1,17 @@
 // Lists of store calls: whatever list is made, a store answers as its plain meaning does, and so two makes of store answer alike.
 #![tactic(auto)]
 
-ghost use Rattle.std.specs.Prelude.{◌≡◌, ℕ, ◌+◌, ◌<◌, ◌≤◌, true, cond, List, [], length, is_ok, IfOk, if◌then◌else◌, vec_items as items, vec_len as filled, vec_capacity as room};
-ghost use Rattle.store_runs.specs.Ledger.{is_refused, free_rows, rows_taken, rows_given};
+ghost use Rattle.std.specs.Prelude.{◌≡◌, ℕ, ◌+◌, ◌<◌, ◌≤◌, true, cond, List, [], length, is_ok, is_err, IfOk, if◌then◌else◌, vec_items as items, vec_len as filled, vec_capacity as room};
+ghost use Rattle.store_runs.specs.Ledger.{free_rows, rows_taken, rows_given};
 ghost use Rattle.store_runs.specs.Observer.{KnownFrom};
-ghost use Rattle.store_runs.specs.Plain.{meant, cleared, version_answer, payload_answer, change_answer, answer_to, after_call, answers_to, after_all};
+ghost use Rattle.store_runs.specs.Plain.{meant, cleared, answer_to, after_call, answers_to, after_all};
 
+// Clauses say `meant`, since a store is any type of the trait, and an `impl Model` is for one.
 use std::alloc::{AllocError, Global};
 use store::{Refusal, Store, Version};
 
 // A call of a store.
-#[derive(Clone, Copy)]
+#[derive(Clone, Copy, PartialEq, Eq, Debug)]
 pub enum StoreCall<P> {
     Newest { item: usize },
     Staged { item: usize },
@@ -20,81 +21,43 @@ pub enum StoreCall<P> {
     Clear,
 }
 
-// What a store answers to a call.
-#[derive(Clone, Copy)]
-pub enum StoreAnswer<P> {
+// What a store replies to a call that it accepts.
+#[derive(Clone, Copy, PartialEq, Eq, Debug)]
+pub enum StoreReply<P> {
     // The item's newest version, or none.
     Version(Option<Version<P>>),
     // The item's staged payload, or none.
     Payload(Option<P>),
     // A change was made.
     Done,
-    // Nothing was changed.
-    Refused(Refusal),
 }
 
-fn seen_version<P: Copy>(res: Result<Option<Version<P>>, Refusal>) -> StoreAnswer<P>
-    ensures { result ≡ version_answer res }
-{
-    match res {
-        Ok(version) => StoreAnswer::Version(version),
-        Err(refusal) => StoreAnswer::Refused(refusal),
-    }
-}
-
-fn seen_payload<P: Copy>(res: Result<Option<P>, Refusal>) -> StoreAnswer<P>
-    ensures { result ≡ payload_answer res }
-{
-    match res {
-        Ok(payload) => StoreAnswer::Payload(payload),
-        Err(refusal) => StoreAnswer::Refused(refusal),
-    }
-}
-
-fn seen_change<P: Copy>(res: Result<(), Refusal>) -> StoreAnswer<P>
-    ensures { result ≡ change_answer res }
-{
-    match res {
-        Ok(()) => StoreAnswer::Done,
-        Err(refusal) => StoreAnswer::Refused(refusal),
-    }
-}
-
-// Makes one call.
-fn answer_call<S: Store>(store: &mut S, call: StoreCall<S::Payload>) -> StoreAnswer<S::Payload>
-    ensures answer { result ≡ answer_to (meant S.Store store.old) call }
-    ensures after { meant S.Store store.new
-        ≡ after_call (meant S.Store store.old) call }
-{
-    match call {
-        StoreCall::Newest { item } => seen_version(store.newest(item)),
-        StoreCall::Staged { item } => seen_payload(store.staged(item)),
-        StoreCall::Stage { item, payload } => seen_change(store.stage(item, payload)),
-        StoreCall::Unstage { item } => seen_change(store.unstage(item)),
-        StoreCall::Install { item, time } => seen_change(store.install(item, time)),
-        StoreCall::Clear => {
-            store.clear();
-            StoreAnswer::Done
-        }
-    }
-}
+// What a store answers to a call; a refusal changes nothing.
+pub type StoreAnswer<P> = Result<StoreReply<P>, Refusal>;
 
 // Makes one call. A refusal changes nothing, and a row is taken or given back as the call says.
 pub fn make_call<S: Store>(store: &mut S, call: StoreCall<S::Payload>) -> StoreAnswer<S::Payload>
     ensures answer { result ≡ answer_to (meant S.Store store.old) call }
     ensures after { meant S.Store store.new
         ≡ after_call (meant S.Store store.old) call }
-    ensures refusal { is_refused result ≡ true → meant S.Store store.new
+    ensures refusal { is_err result ≡ true → meant S.Store store.new
         ≡ meant S.Store store.old }
     ensures rows { free_rows (meant S.Store store.new)
         + rows_taken (meant S.Store store.old) call
         ≡ free_rows (meant S.Store store.old)
         + rows_given (meant S.Store store.old) call }
 {
-    store.lawful();
-    let answer = answer_call(store, call);
-    store.lawful();
-    answer
+    match call {
+        StoreCall::Newest { item } => store.newest(item).map(StoreReply::Version),
+        StoreCall::Staged { item } => store.staged(item).map(StoreReply::Payload),
+        StoreCall::Stage { item, payload } => store.stage(item, payload).map(|()| StoreReply::Done),
+        StoreCall::Unstage { item } => store.unstage(item).map(|()| StoreReply::Done),
+        StoreCall::Install { item, time } => store.install(item, time).map(|()| StoreReply::Done),
+        StoreCall::Clear => {
+            store.clear();
+            Ok(StoreReply::Done)
+        }
+    }
 }
 
 // Makes the calls in order, and adds the answers.
@@ -110,8 +73,24 @@ fn answer_all<S: Store>(
         ≡ after_all (meant S.Store store.old) calls.now }
 {
     for call in calls {
-        answers.push_reserved(answer_call(store, *call));
+        answers.push_reserved(make_call(store, *call));
     }
+}
+
+// Clears the store, makes the calls in order, and adds the answers.
+fn answer_cleared<S: Store>(
+    store: &mut S,
+    calls: &[StoreCall<S::Payload>],
+    answers: &mut Vec<StoreAnswer<S::Payload>>,
+)
+    requires answers_value { items answers.old ≡ [] }
+    requires calls_len_bound { length calls.now ≤ room answers.old }
+    ensures answers { items answers.new ≡ answers_to (cleared (meant S.Store store.old)) calls.now }
+    ensures after { meant S.Store store.new
+        ≡ after_all (cleared (meant S.Store store.old)) calls.now }
+{
+    store.clear();
+    answer_all(store, calls, answers);
 }
 
 // Makes the calls in order, and gives the answers. Memory for them is taken first: without it no call is made.
@@ -130,6 +109,7 @@ pub fn run<S: Store>(
     Ok(answers)
 }
 
+// Beside `run`, and no flag for it: what an observer knows after it holds of a cleared store alone.
 // Clears the store, makes the calls in order, and gives the answers. From calls and answers alone an observer then knows what each item has
 // staged, and its newest version.
 pub fn run_cleared<S: Store>(
@@ -143,8 +123,7 @@ pub fn run_cleared<S: Store>(
     ensures known { IfOk result (λ v. KnownFrom calls.now (items v) (meant S.Store store.new)) }
 {
     let mut told = Vec::with_capacity(heap, calls.len())?;
-    store.clear();
-    answer_all(store, calls, &mut told);
+    answer_cleared(store, calls, &mut told);
     Ok(told)
 }
 
@@ -155,7 +134,7 @@ pub fn run_both<S: Store, T: Store<Payload = S::Payload>>(
     second: &mut T,
     calls: &[StoreCall<S::Payload>],
 ) -> Result<(Vec<StoreAnswer<S::Payload>>, Vec<StoreAnswer<S::Payload>>), AllocError>
-    ensures alike { IfOk result (λ v. S.Store.width ≡ T.Store.width → S.Store.capacity first.old ≡ T.Store.capacity second.old → items v.0 ≡ items v.1) }
+    ensures alike { IfOk result (λ v. S.K ≡ T.K → S.capacity first.old ≡ T.capacity second.old → items v.0 ≡ items v.1) }
     ensures answers { IfOk result (λ v. (items v.0 ≡ answers_to (cleared (meant S.Store first.old)) calls.now)
         × (items v.1 ≡ answers_to (cleared (meant T.Store second.old)) calls.now)) }
     ensures first { meant S.Store first.new
@@ -165,9 +144,7 @@ pub fn run_both<S: Store, T: Store<Payload = S::Payload>>(
 {
     let mut from_first = Vec::with_capacity(heap, calls.len())?;
     let mut from_second = Vec::with_capacity(heap, calls.len())?;
-    first.clear();
-    second.clear();
-    answer_all(first, calls, &mut from_first);
-    answer_all(second, calls, &mut from_second);
+    answer_cleared(first, calls, &mut from_first);
+    answer_cleared(second, calls, &mut from_second);
     Ok((from_first, from_second))
 }

@@ -1,38 +1,25 @@
 // Makes the same lists of calls on both makes of store, and prints what they answer.
 #![tactic(auto)]
 
-use anyhow::anyhow;
+use anyhow::Context;
 use chain::Chain;
 use journal::Journal;
-use store::{Refusal, Store, Unmade};
-use store_runs::{StoreAnswer, StoreCall, run_both, run_cleared};
+use std::fmt;
+use store::{Store, Unmade, Version};
+use store_runs::{StoreAnswer, StoreCall, StoreReply, run_both, run_cleared};
 
 const ITEMS: usize = 3;
 
-fn refusal_text(refusal: Refusal) -> &'static str {
-    match refusal {
-        Refusal::NoItem => "no such item",
-        Refusal::NoRow => "no row is free",
-        Refusal::NotStaged => "nothing is staged",
-        Refusal::NotLater => "not later than the newest",
-    }
-}
-
 fn print_answer(rt: &HostRuntime, answer: StoreAnswer<u64>) -> anyhow::Result<()> {
     match answer {
-        StoreAnswer::Version(Some(version)) => {
-            let payload = version.payload;
-            let time = version.time;
+        Ok(StoreReply::Version(Some(Version { time, payload }))) => {
             println!(rt; "  newest {payload} of {time}")?;
         }
-        StoreAnswer::Version(None) => rt.println("  no version")?,
-        StoreAnswer::Payload(Some(payload)) => println!(rt; "  staged {payload}")?,
-        StoreAnswer::Payload(None) => rt.println("  none staged")?,
-        StoreAnswer::Done => rt.println("  done")?,
-        StoreAnswer::Refused(refusal) => {
-            let text = refusal_text(refusal);
-            println!(rt; "  refused: {text}")?;
-        }
+        Ok(StoreReply::Version(None)) => println!(rt; "  no version")?,
+        Ok(StoreReply::Payload(Some(payload))) => println!(rt; "  staged {payload}")?,
+        Ok(StoreReply::Payload(None)) => println!(rt; "  none staged")?,
+        Ok(StoreReply::Done) => println!(rt; "  done")?,
+        Err(refusal) => println!(rt; "  refused: {refusal}")?,
     }
     Ok(())
 }
@@ -46,7 +33,7 @@ fn try_calls<S: Store<Payload = u64>>(
 ) -> anyhow::Result<()> {
     println!(rt; " {title}:")?;
     let answers = run_cleared(rt.alloc(), store, calls)?;
-    for answer in answers.as_slice() {
+    for answer in &answers {
         print_answer(rt, *answer)?;
     }
     Ok(())
@@ -177,6 +164,7 @@ fn try_lists<S: Store<Payload = u64>>(
 // How many versions a store takes before it refuses one.
 fn versions_taken<S: Store<Payload = u64>>(store: &mut S) -> u64 {
     let mut count: u64 = 0;
+    // The times themselves, and no index.
     for time in 1..5002u64 {
         if store.stage(0, time).is_ok() && store.install(0, time).is_ok() {
             count = count.saturating_add(1);
@@ -185,50 +173,59 @@ fn versions_taken<S: Store<Payload = u64>>(store: &mut S) -> u64 {
     count
 }
 
+// A store of each make, of three items and so many rows.
+fn both_makes(
+    rt: &HostRuntime,
+    rows: usize,
+) -> anyhow::Result<(Journal<u64, ITEMS>, Chain<u64, ITEMS>)> {
+    let journal = Journal::new(rt.alloc(), rows).context("no journal")?;
+    let chain = Chain::new(rt.alloc(), rows).context("no chain")?;
+    Ok((journal, chain))
+}
+
 // Prints how many versions each make takes when it is given so many rows.
 fn try_rows(rt: &HostRuntime, rows: usize) -> anyhow::Result<()> {
-    let Ok(mut journal) = Journal::<u64, ITEMS>::new(rt.alloc(), rows) else {
-        return Err(anyhow!("no journal"));
-    };
-    let Ok(mut chain) = Chain::<u64, ITEMS>::new(rt.alloc(), rows) else {
-        return Err(anyhow!("no chain"));
-    };
+    let (mut journal, mut chain) = both_makes(rt, rows)?;
     let from_journal = versions_taken(&mut journal);
     let from_chain = versions_taken(&mut chain);
     println!(rt; "{rows} rows: journal {from_journal}, chain {from_chain}")?;
     Ok(())
 }
 
-fn outcome_text<S: Drop>(outcome: Result<S, Unmade>) -> &'static str {
-    match outcome {
-        Ok(_) => "made",
-        Err(Unmade::Memory) => "no memory",
-        Err(Unmade::ItemCount) => "item count out of range",
+// Whether a store was made, as a text.
+#[derive(Drop)]
+struct Outcome(Result<(), Unmade>);
+
+impl fmt::Display for Outcome {
+    fn fmt<W: fmt::Write>(&self, f: &mut fmt::Formatter<W>) -> fmt::Result {
+        match self.0 {
+            Ok(()) => write!(f, "made"),
+            Err(why) => write!(f, "{why}"),
+        }
     }
+}
+
+fn outcome_of<S: Drop>(made: Result<S, Unmade>) -> Outcome {
+    Outcome(made.map(|_| ()))
 }
 
 // Prints which numbers of items each make can have.
 fn try_items(rt: &HostRuntime) -> anyhow::Result<()> {
-    let none = outcome_text(Journal::<u64, 0>::new(rt.alloc(), 1));
-    let one = outcome_text(Journal::<u64, 1>::new(rt.alloc(), 1));
-    let most = outcome_text(Journal::<u64, 64>::new(rt.alloc(), 1));
-    let more = outcome_text(Journal::<u64, 65>::new(rt.alloc(), 1));
+    let none = outcome_of(Journal::<u64, 0>::new(rt.alloc(), 1));
+    let one = outcome_of(Journal::<u64, 1>::new(rt.alloc(), 1));
+    let most = outcome_of(Journal::<u64, 64>::new(rt.alloc(), 1));
+    let more = outcome_of(Journal::<u64, 65>::new(rt.alloc(), 1));
     println!(rt; "journal of 0, 1, 64 and 65 items: {none}, {one}, {most}, {more}")?;
-    let none = outcome_text(Chain::<u64, 0>::new(rt.alloc(), 1));
-    let one = outcome_text(Chain::<u64, 1>::new(rt.alloc(), 1));
-    let most = outcome_text(Chain::<u64, 64>::new(rt.alloc(), 1));
-    let more = outcome_text(Chain::<u64, 65>::new(rt.alloc(), 1));
+    let none = outcome_of(Chain::<u64, 0>::new(rt.alloc(), 1));
+    let one = outcome_of(Chain::<u64, 1>::new(rt.alloc(), 1));
+    let most = outcome_of(Chain::<u64, 64>::new(rt.alloc(), 1));
+    let more = outcome_of(Chain::<u64, 65>::new(rt.alloc(), 1));
     println!(rt; "chain of 0, 1, 64 and 65 items: {none}, {one}, {most}, {more}")?;
     Ok(())
 }
 
 fn try_makes(rt: &HostRuntime) -> anyhow::Result<()> {
-    let Ok(mut journal) = Journal::<u64, ITEMS>::new(rt.alloc(), 2) else {
-        return Err(anyhow!("no journal"));
-    };
-    let Ok(mut chain) = Chain::<u64, ITEMS>::new(rt.alloc(), 2) else {
-        return Err(anyhow!("no chain"));
-    };
+    let (mut journal, mut chain) = both_makes(rt, 2)?;
     try_lists(rt, "journal", &mut journal)?;
     try_lists(rt, "chain", &mut chain)?;
     let (first, second) = run_both(rt.alloc(), &mut journal, &mut chain, &INSTALLING)?;

@@ -1,2 +1,1 @@
-mod Removal
 mod Places

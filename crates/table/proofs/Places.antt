@@ -1,85 +1,61 @@
-use Rattle.std.proofs.Common.{◌≡◌, ℕ, zero, suc, ◌+◌, ◌<◌, ◌≤◌, Bool, true, false, cond, eqb, List, [], ◌∷◌, length, get_or, take, drop, set, Some, None, sym, refl, ap, ◌∙◌, add-one, arith, eq-eqb, ne_eqb}
-use Rattle.std.proofs.lemmas.Bool.{cond-true, cond-false}
-use Rattle.std.proofs.lemmas.List.{at_drop_more, at_drop_all}
-use Rattle.std.specs.List.{remove}
-use Rattle.table.specs.Contents.{place_in, find_in, without, nth_in, stepped}
+-- What stands at the place of the first record that has a number.
+use Rattle.std.proofs.Common.{◌≡◌, ℕ, suc, ◌+◌, Bool, true, false, cond, not, eqb, List, [], ◌∷◌, length, get_or, set, Some, None, refl, ap, ◌∙◌, arith, rules, position}
+use Rattle.std.specs.List.{remove, position_or_len}
+use Rattle.std.proofs.lemmas.List.Folds.{find_at}
+use Rattle.std.proofs.lemmas.Option.{slice_get_past, slice_get_read}
+use Rattle.table.specs.Contents.{has, find_in, without, stepped}
 
-pub here : {X : Type 0} (num : X → ℕ) (xs : List X) (i x : ℕ) (d : X) → i < length xs → d ≡ get_or xs i d → num d ≡ x → place_in num (drop i xs) x ≡ 0
-here num xs i x d h e n =
-    at_drop_more (λ ys. place_in num ys x) xs i d h
-    ∙ cond-true (eqb (num (get_or xs i d)) x) 0 (place_in num (drop (i + 1) xs) x + 1) (eq-eqb (num (get_or xs i d)) x (ap num (sym e) ∙ n))
+next : (n : ℕ) → 1 + n ≡ suc n
+next n = omega arith
 
-pub next : {X : Type 0} (num : X → ℕ) (xs : List X) (i x : ℕ) (d : X) → i < length xs → d ≡ get_or xs i d → (num d ≡ x → ⊥) →
-    place_in num (drop i xs) x ≡ place_in num (drop (i + 1) xs) x + 1
-next num xs i x d h e n =
-    at_drop_more (λ ys. place_in num ys x) xs i d h
-    ∙ cond-false (eqb (num (get_or xs i d)) x) 0 (place_in num (drop (i + 1) xs) x + 1) (ne_eqb (num (get_or xs i d)) x (λ q. n (ap num e ∙ q)))
+without_in : {X : Type 0} (num : X → ℕ) (xs : List X) (n : ℕ) → remove xs (position_or_len (has num n) xs) ≡ without num xs n
+without_in num [] n = refl
+without_in num (x ∷ xs) n =
+    let at = position_or_len (has num n) xs in
+    let P : Bool → Type 0 = λ b. remove (x ∷ xs) (cond (not b) (1 + at) 0) ≡ cond b xs (x ∷ without num xs n) in
+    elim (eqb (num x) n) as P [ true ↦ refl | false ↦ ap (remove (x ∷ xs)) (next at) ∙ ap (λ ys. x ∷ ys) (without_in num xs n) ]
 
-pub none : {X : Type 0} (num : X → ℕ) (xs : List X) (i x : ℕ) → length xs ≤ i → place_in num (drop i xs) x ≡ 0
-none num xs i x h = at_drop_all (λ ys. place_in num ys x) xs i h
-
--- by the place
-pub find_in_lem : {X : Type 0} (num : X → ℕ) (xs : List X) (x : ℕ) (d : X) → place_in num xs x < length xs → find_in num xs x ≡ Some (get_or xs (place_in num xs x) d)
-find_in_lem num [] x d h = absurd (omega arith)
-find_in_lem num (r ∷ rs) x d h =
-    let P : Bool → Type 0 = λ b. cond b 0 (place_in num rs x + 1) < suc (length rs) → cond b (Some r) (find_in num rs x) ≡ Some (get_or (r ∷ rs) (cond b 0 (place_in num rs x + 1)) d) in
-    let all : (b : Bool) → P b = λ b. elim b as P [ true ↦ (λ _. refl) | false ↦ (λ l. find_in_lem num rs x d (omega arith) ∙ ap (λ k. Some (get_or (r ∷ rs) k d)) (sym (add-one (place_in num rs x)))) ] in
-    all (eqb (num r) x) h
-
-pub find_out : {X : Type 0} (num : X → ℕ) (xs : List X) (x : ℕ) → length xs ≤ place_in num xs x → find_in num xs x ≡ None
-find_out num [] x h = refl
-find_out num (r ∷ rs) x h =
-    let P : Bool → Type 0 = λ b. suc (length rs) ≤ cond b 0 (place_in num rs x + 1) → cond b (Some r) (find_in num rs x) ≡ None in
-    let all : (b : Bool) → P b = λ b. elim b as P [ true ↦ (λ l. absurd (omega arith)) | false ↦ (λ l. find_out num rs x (omega arith)) ] in
-    all (eqb (num r) x) h
-
-pub without_in : {X : Type 0} (num : X → ℕ) (xs : List X) (x : ℕ) → remove xs (place_in num xs x) ≡ without num xs x
-without_in num [] x = refl
-without_in num (r ∷ rs) x =
-    let P : Bool → Type 0 = λ b. remove (r ∷ rs) (cond b 0 (place_in num rs x + 1)) ≡ cond b rs (r ∷ without num rs x) in
-    elim (eqb (num r) x) as P [ true ↦ refl | false ↦ ap (λ k. remove (r ∷ rs) k) (add-one (place_in num rs x)) ∙ ap (λ ys. r ∷ ys) (without_in num rs x) ]
-
-pub removed_out : {X : Type 0} (xs : List X) (i : ℕ) → length xs ≤ i → remove xs i ≡ xs
-removed_out [] zero h = refl
-removed_out [] (suc i) h = refl
-removed_out (x ∷ xs) zero h = absurd (omega arith)
-removed_out (x ∷ xs) (suc i) h = ap (λ ys. x ∷ ys) (removed_out xs i (omega arith))
-
--- an event of the record at the place
-pub stepped_in : {X V : Type 0} (num : X → ℕ) (next : X → V → X) (xs : List X) (n : ℕ) (e : V) (d : X) → d ≡ get_or xs (place_in num xs n) d →
-    place_in num xs n < length xs → set xs (place_in num xs n) (next d e) ≡ stepped num next xs n e
-stepped_in num next [] n e d q h = absurd (omega arith)
-stepped_in num next (r ∷ rs) n e d q h =
-    let P : Bool → Type 0 = λ b. d ≡ get_or (r ∷ rs) (cond b 0 (place_in num rs n + 1)) d → cond b 0 (place_in num rs n + 1) < suc (length rs) →
-    set (r ∷ rs) (cond b 0 (place_in num rs n + 1)) (next d e) ≡ cond b (next r e ∷ rs) (r ∷ stepped num next rs n e) in
+stepped_in : {X V : Type 0} (num : X → ℕ) (step : X → V → X) (xs : List X) (n : ℕ) (e : V) (d : X) → d ≡ get_or xs (position_or_len (has num n) xs) d →
+    set xs (position_or_len (has num n) xs) (step d e) ≡ stepped num step xs n e
+stepped_in num step [] n e d q = refl
+stepped_in num step (x ∷ xs) n e d q =
+    let at = position_or_len (has num n) xs in
+    let P : Bool → Type 0 = λ b. d ≡ get_or (x ∷ xs) (cond (not b) (1 + at) 0) d →
+    set (x ∷ xs) (cond (not b) (1 + at) 0) (step d e) ≡ cond b (step x e ∷ xs) (x ∷ stepped num step xs n e) in
     let all : (b : Bool) → P b = λ b. elim b as P [
-      | true ↦ (λ f l. ap (λ y. next y e ∷ rs) f)
-      | false ↦ (λ f l.
-          ap (λ k. set (r ∷ rs) k (next d e)) (add-one (place_in num rs n))
-          ∙ ap (λ ys. r ∷ ys) (stepped_in num next rs n e d (f ∙ ap (λ k. get_or (r ∷ rs) k d) (add-one (place_in num rs n))) (omega arith)))
+      | true ↦ (λ f. ap (λ y. step y e ∷ xs) f)
+      | false ↦ (λ f.
+          ap (λ k. set (x ∷ xs) k (step d e)) (next at)
+          ∙ ap (λ ys. x ∷ ys) (stepped_in num step xs n e d (f ∙ ap (λ k. get_or (x ∷ xs) k d) (next at))))
     ] in
-    all (eqb (num r) n) q h
+    all (eqb (num x) n) q
 
-pub stepped_out : {X V : Type 0} (num : X → ℕ) (next : X → V → X) (xs : List X) (n : ℕ) (e : V) → length xs ≤ place_in num xs n → stepped num next xs n e ≡ xs
-stepped_out num next [] n e h = refl
-stepped_out num next (r ∷ rs) n e h =
-    let P : Bool → Type 0 = λ b. suc (length rs) ≤ cond b 0 (place_in num rs n + 1) → cond b (next r e ∷ rs) (r ∷ stepped num next rs n e) ≡ r ∷ rs in
-    let all : (b : Bool) → P b = λ b. elim b as P [ true ↦ (λ l. absurd (omega arith)) | false ↦ (λ l. ap (λ ys. r ∷ ys) (stepped_out num next rs n e (omega arith))) ] in
-    all (eqb (num r) n) h
+-- where the first record that has the number stands
+pub without_at : {X : Type 0} (num : X → ℕ) (xs : List X) (n i : ℕ) → position (has num n) xs ≡ Some i → remove xs i ≡ without num xs n
+without_at num xs n i h = grind (arith, h, without_in num xs n)
 
-pub take_set : {X : Type 0} (n : ℕ) (xs : List X) (i : ℕ) (x : X) → take n (set xs i x) ≡ set (take n xs) i x
-take_set zero [] i x = refl
-take_set zero (y ∷ ys) i x = refl
-take_set (suc n) [] i x = refl
-take_set (suc n) (y ∷ ys) zero x = refl
-take_set (suc n) (y ∷ ys) (suc i) x = ap (λ zs. y ∷ zs) (take_set n ys i x)
+pub stepped_at : {X V : Type 0} (num : X → ℕ) (step : X → V → X) (xs : List X) (n : ℕ) (e : V) (i : ℕ) (d : X) →
+    position (has num n) xs ≡ Some i → d ≡ get_or xs i d → set xs i (step d e) ≡ stepped num step xs n e
+stepped_at num step xs n e i d h q = grind (arith, h, q, stepped_in num step xs n e d)
 
-pub nth_in_lem : {X : Type 0} (xs : List X) (i : ℕ) (d : X) → i < length xs → nth_in xs i ≡ Some (get_or xs i d)
-nth_in_lem [] i d h = absurd (omega arith)
-nth_in_lem (x ∷ xs) zero d h = refl
-nth_in_lem (x ∷ xs) (suc i) d h = nth_in_lem xs i d (omega arith)
+pub found_at : {X : Type 0} (num : X → ℕ) (xs : List X) (n i : ℕ) (d : X) →
+    position (has num n) xs ≡ Some i → d ≡ get_or xs i d → find_in num xs n ≡ Some d
+found_at num xs n i d h q = grind (arith, h, find_at (has num n) xs, slice_get_read xs (length xs) i d refl, q)
 
-pub nth_out : {X : Type 0} (xs : List X) (i : ℕ) → length xs ≤ i → nth_in xs i ≡ None
-nth_out [] i h = refl
-nth_out (x ∷ xs) zero h = absurd (omega arith)
-nth_out (x ∷ xs) (suc i) h = nth_out xs i (omega arith)
+-- where none has it
+pub found_none : {X : Type 0} (num : X → ℕ) (xs : List X) (n : ℕ) → position (has num n) xs ≡ None → find_in num xs n ≡ None
+found_none num xs n h = grind (arith, h, find_at (has num n) xs, slice_get_past xs (position_or_len (has num n) xs))
+
+unfound : {X : Type 0} (num : X → ℕ) (xs : List X) (n : ℕ) → find_in num xs n ≡ None → xs ≡ without num xs n
+unfound num [] n h = refl
+unfound num (x ∷ xs) n h = grind (rules, h, unfound num xs n)
+
+unmoved : {X V : Type 0} (num : X → ℕ) (step : X → V → X) (xs : List X) (n : ℕ) (e : V) → find_in num xs n ≡ None → xs ≡ stepped num step xs n e
+unmoved num step [] n e h = refl
+unmoved num step (x ∷ xs) n e h = grind (rules, h, unmoved num step xs n e)
+
+pub without_none : {X : Type 0} (num : X → ℕ) (xs : List X) (n : ℕ) → position (has num n) xs ≡ None → xs ≡ without num xs n
+without_none num xs n h = unfound num xs n (found_none num xs n h)
+
+pub stepped_none : {X V : Type 0} (num : X → ℕ) (step : X → V → X) (xs : List X) (n : ℕ) (e : V) → position (has num n) xs ≡ None → xs ≡ stepped num step xs n e
+stepped_none num step xs n e h = unmoved num step xs n e (found_none num xs n h)

@@ -1,26 +1,20 @@
--- What a table holds, and what its calls do to it: the first record that has a number counts.
-use Rattle.std.specs.Prelude.{ℕ, zero, suc, ◌+◌, cond, List, [], ◌∷◌, ◌++◌, length, take, Some, None, Option, ◌==◌, nat_lt}
-use Rattle.table.specs.declared.Table.{Table}
-
-abbrev pub listed : {X : Type 0} {n : ℕ} → Table X n → List X
-listed t = take t.len t.items
+-- What calls do to the records of a table: the first record that has a number counts.
+use Rattle.std.specs.Prelude.{ℕ, Bool, cond, List, [], ◌∷◌, ◌++◌, length, Some, None, Option, ◌==◌, nat_lt, slice_get}
+use Rattle.std.specs.List.{find}
 
 -- one more at the end, where there is room for it
 abbrev pub pushed : {X : Type 0} → ℕ → List X → X → List X
 pushed n xs x = cond (nat_lt (length xs) n) (xs ++ (x ∷ [])) xs
 
 abbrev pub nth_in : {X : Type 0} → List X → ℕ → Option X
-nth_in [] i = None
-nth_in (x ∷ xs) zero = Some x
-nth_in (x ∷ xs) (suc i) = nth_in xs i
+nth_in xs i = slice_get xs i
 
-abbrev pub place_in : {X : Type 0} → (X → ℕ) → List X → ℕ → ℕ
-place_in num [] n = 0
-place_in num (x ∷ xs) n = cond (num x == n) 0 (place_in num xs n + 1)
+-- whether a record has the number
+abbrev pub has : {X : Type 0} → (X → ℕ) → ℕ → X → Bool
+has num n x = num x == n
 
 abbrev pub find_in : {X : Type 0} → (X → ℕ) → List X → ℕ → Option X
-find_in num [] n = None
-find_in num (x ∷ xs) n = cond (num x == n) (Some x) (find_in num xs n)
+find_in num xs n = find (has num n) xs
 
 abbrev pub without : {X : Type 0} → (X → ℕ) → List X → ℕ → List X
 without num [] n = []

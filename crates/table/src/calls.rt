@@ -1,83 +1,54 @@
-ghost use Rattle.std.specs.Prelude.{◌≡◌, ℕ, ◌<◌, List, [], ◌∷◌, ◌++◌, length, if◌then◌else◌, nat_lt, slice_index_or};
+ghost use Rattle.std.specs.Prelude.{◌≡◌, ◌≤◌, ℕ, [], length, if◌then◌else◌, nat_lt, Ok, Err};
 ghost use Rattle.std.specs.List.{remove};
-ghost use Rattle.std.specs.Option.{option_map};
-ghost use Rattle.table.specs.Contents.{listed, place_in, find_in, without, nth_in, reply_in, stepped};
+ghost use Rattle.table.specs.Contents.{find_in, has, pushed, without, nth_in, reply_in, stepped};
 
 use crate::Table;
+use arrayvec::{ArrayVec, CapacityError};
 
-impl<T: Copy, const N: usize> Table<T, N> {
-    // An empty table; `fill` takes the places that stand for nothing.
-    pub fn new(fill: T) -> Self
-        ensures { listed result ≡ [] }
+// Only what empties a place asks for a default, which the place has from then on.
+impl<T: Copy + Default, const N: usize> Table<T, N> {
+    pub fn new() -> Self
+        ensures { result ≡ [] }
     {
         Table {
-            items: [fill; N],
-            len: 0,
+            records: ArrayVec::new(),
         }
-    }
-
-    pub fn len(&self) -> usize
-        ensures { result ≡ length (listed self.now) }
-    {
-        self.len
-    }
-
-    pub fn as_slice(&self) -> &[T]
-        ensures { result.now ≡ listed self.now }
-    {
-        &self.items[..self.len]
-    }
-
-    fn get(&self, place: usize) -> T
-        requires { place < length (listed self.now) }
-        ensures { result ≡ slice_index_or (listed self.now) place result }
-    {
-        self.items[place]
-    }
-
-    pub fn nth(&self, place: usize) -> Option<T>
-        ensures { result ≡ nth_in (listed self.now) place }
-    {
-        if place < self.len {
-            Some(self.get(place))
-        } else {
-            None
-        }
-    }
-
-    // Adds a record at the end, or answers false where there is no room.
-    pub fn push(&mut self, item: T) -> bool
-        ensures value { result ≡ nat_lt (length (listed self.old)) N }
-        ensures after { listed self.new ≡ (if result then listed self.old ++ (item ∷ []) else listed self.old) }
-    {
-        if self.len >= N {
-            return false;
-        }
-        self.items[self.len] = item;
-        self.len += 1;
-        true
-    }
-
-    fn take_out(&mut self, place: usize)
-        requires { place < length (listed self.old) }
-        ensures { listed self.new ≡ remove (listed self.old) place }
-    {
-        let mut k = place;
-        while k + 1 < self.len {
-            let next = self.items[k + 1];
-            self.items[k] = next;
-            k += 1;
-        }
-        self.len -= 1;
     }
 
     // Takes the record at the place out, if there is one; later ones move down by one.
     pub fn remove(&mut self, place: usize)
-        ensures { listed self.new ≡ remove (listed self.old) place }
+        ensures { self.new ≡ remove self.old place }
     {
-        if place < self.len {
-            self.take_out(place);
-        }
+        self.records.pop_at(place);
+    }
+}
+
+impl<T: Copy, const N: usize> Table<T, N> {
+    pub fn len(&self) -> usize
+        ensures value { result ≡ length self.now }
+        ensures fits { result ≤ N }
+    {
+        self.records.len()
+    }
+
+    pub fn as_slice(&self) -> &[T]
+        ensures { result.now ≡ self.now }
+    {
+        self.records.as_slice()
+    }
+
+    pub fn nth(&self, place: usize) -> Option<T>
+        ensures { result ≡ nth_in self.now place }
+    {
+        self.records.get(place).copied()
+    }
+
+    // Adds a record at the end, or hands it back where there is no room.
+    pub fn push(&mut self, item: T) -> Result<(), T>
+        ensures value { result ≡ (if nat_lt (length self.old) N then Ok tt else Err item) }
+        ensures after { self.new ≡ pushed N self.old item }
+    {
+        self.records.try_push(item).map_err(CapacityError::element)
     }
 }
 
@@ -90,36 +61,36 @@ pub trait Numbered: Sized {
 }
 
 impl<T: Numbered + Copy, const N: usize> Table<T, N> {
-    // The place of the first record with the number, or the length.
-    fn place(&self, number: u64) -> usize
-        ensures { result ≡ place_in T.Numbered.number (listed self.now) number }
+    ghost use Rattle.std.specs.Prelude.{position};
+
+    // The place of the first record with the number.
+    fn place(&self, number: u64) -> Option<usize>
+        ensures { result ≡ position (has T.Numbered.number number) self.now }
     {
-        for i in 0..self.len {
-            let record = self.get(i);
-            if record.number() == number {
-                return i;
-            }
-        }
-        self.len
+        self.records
+            .iter()
+            .position(|record| record.number() == number)
     }
 
     pub fn find(&self, number: u64) -> Option<T>
-        ensures { result ≡ find_in T.Numbered.number (listed self.now) number }
+        ensures { result ≡ find_in T.Numbered.number self.now number }
     {
-        let i = self.place(number);
-        if i < self.len {
-            Some(self.get(i))
-        } else {
-            None
-        }
+        self.records
+            .iter()
+            .copied()
+            .find(|record| record.number() == number)
     }
+}
 
+impl<T: Numbered + Copy + Default, const N: usize> Table<T, N> {
     // Takes the first record with the number out.
+    #[tactic(auto, using(crate::proofs::Places::without_at, crate::proofs::Places::without_none))]
     pub fn forget(&mut self, number: u64)
-        ensures { listed self.new ≡ without T.Numbered.number (listed self.old) number }
+        ensures { self.new ≡ without T.Numbered.number self.old number }
     {
-        let i = self.place(number);
-        self.remove(i);
+        if let Some(place) = self.place(number) {
+            self.records.remove(place);
+        }
     }
 }
 
@@ -140,15 +111,13 @@ pub trait Machine: Numbered {
 
 impl<T: Machine + Copy, const N: usize> Table<T, N> {
     // Gives the event to the first record with the number, which changes where it stands.
+    #[tactic(auto, using(crate::proofs::Places::found_at, crate::proofs::Places::found_none, crate::proofs::Places::stepped_at, crate::proofs::Places::stepped_none))]
     pub fn step(&mut self, number: u64, event: T::Event) -> Option<T::Reply>
-        ensures value { result ≡ reply_in T.Machine.reply (find_in T.Numbered.number (listed self.old) number) event }
-        ensures after { listed self.new ≡ stepped T.Numbered.number T.Machine.next (listed self.old) number event }
+        ensures value { result ≡ reply_in T.Machine.reply (find_in T.Numbered.number self.old number) event }
+        ensures after { self.new ≡ stepped T.Numbered.number T.Machine.next self.old number event }
     {
-        let i = self.place(number);
-        if i < self.len {
-            Some(self.items[i].step(event))
-        } else {
-            None
-        }
+        let place = self.place(number)?;
+        let record = self.records.get_mut(place)?;
+        Some(record.step(event))
     }
 }

@@ -1,17 +1,25 @@
 // A list of at most N records that needs no memory of its own, so that making it cannot fail. Records are reached by their number.
 #![tactic(auto)]
 
-ghost use Rattle.std.specs.Prelude.{◌≡◌, ◌≤◌, length};
-
 mod calls;
 
+use arrayvec::ArrayVec;
 pub use calls::{Machine, Numbered};
+use std::marker::Model;
 
-// The first `len` of the items count; the others stand for nothing.
 #[derive(Drop)]
 pub struct Table<T, const N: usize> {
-    items: [T; N],
-    len: usize,
-    ghost room: { len ≤ N },
-    ghost long: { length items ≡ N },
+    records: ArrayVec<T, N>,
+}
+
+// Contracts see a table as the list of its records.
+impl<T, const N: usize> Model for Table<T, N> {
+    ghost use Rattle.std.specs.Prelude.{List};
+    ghost use Rattle.std.specs.Coded.{coded_list};
+
+    ghost Value = { List T };
+
+    ghost coded = { coded_list T.code };
+
+    ghost view = { λ t. t.records.items };
 }

@@ -1,10 +1,11 @@
 // Joining, reading and writing.
-ghost use Rattle.std.specs.Prelude.{◌≡◌, ◌<◌, true, false, is_ok, if◌then◌else◌};
-ghost use Rattle.model.specs.Cells.{at_clock, join_told, join_done, may_use, newest_at, read_told, read_done, write_told, write_done, close_done};
-ghost use Rattle.cell.specs.View.{cell_view, fresh_cell};
+ghost use Rattle.std.specs.Prelude.{◌≡◌, ◌<◌, true, is_ok};
+ghost use Rattle.cohort.specs.Holds.{writes_in};
+ghost use Rattle.model.specs.Cells.{at_clock, cohort_of, join_told, join_done, may_use, value_for, read_told, read_done, write_told, write_done, close_done};
+ghost use Rattle.cell.specs.View.{cell_view, fresh_cell, active_by};
 
 use crate::parts::Cell;
-use cohort::{Cohort, Event, State, clash};
+use cohort::{Access, Cohort, Event, Mode, State, Timing, clash};
 use items::ItemSet;
 use protocol::{CellFault, WIDEST_SPREAD};
 use store::Store;
@@ -16,25 +17,21 @@ impl<S: Store> Cell<S> {
         ensures { cell_view S.Store result ≡ fresh_cell S.Store store spread }
     {
         store.clear();
-        let nobody = Cohort {
-            tx: 0,
-            state: State::Done,
-            reads: ItemSet::new(),
-            writes: ItemSet::new(),
-        };
         Cell {
             store,
-            clock: 0,
-            spread: spread.min(WIDEST_SPREAD),
-            last: 0,
-            cohorts: Table::new(nobody),
+            timing: Timing {
+                last: 0,
+                clock: 0,
+                spread: spread.min(WIDEST_SPREAD),
+            },
+            cohorts: Table::new(),
         }
     }
 
     pub fn set_clock(&mut self, time: u64)
         ensures { cell_view S.Store self.new ≡ at_clock (cell_view S.Store self.old) time }
     {
-        self.clock = time;
+        self.timing.clock = time;
     }
 
     // The transaction becomes Active here.
@@ -45,8 +42,8 @@ impl<S: Store> Cell<S> {
         if self.cohorts.find(tx).is_some() {
             return Err(CellFault::NotActive);
         }
-        let start = self.clock;
-        self.cohorts.push(Cohort {
+        let start = self.timing.clock;
+        let _joined = self.cohorts.push(Cohort {
             tx,
             state: State::Active(start),
             reads: ItemSet::new(),
@@ -55,40 +52,41 @@ impl<S: Store> Cell<S> {
         Ok(())
     }
 
-    // The transaction's cohort, if it may use the item.
-    fn may_use(&self, tx: u64, item: usize, writing: bool) -> Result<Cohort, CellFault>
-        ensures value { result ≡ may_use (cell_view S.Store self.now) tx item writing }
-        ensures within { is_ok result ≡ true → item < S.width }
+    // The transaction's cohort, if it is Active here.
+    pub(super) fn active(&self, tx: u64) -> Result<Cohort, CellFault>
+        ensures { result ≡ active_by (cohort_of (cell_view S.Store self.now) tx) }
     {
-        let Some(cohort) = self.cohorts.find(tx) else {
-            return Err(CellFault::NotActive);
-        };
-        if !cohort.state.is_active() {
-            return Err(CellFault::NotActive);
+        self.cohorts
+            .find(tx)
+            .filter(|cohort| cohort.state.is_active())
+            .ok_or(CellFault::NotActive)
+    }
+
+    // The transaction's cohort, if it may use the item.
+    fn may_use(&self, access: Access) -> Result<Cohort, CellFault>
+        ensures value { result ≡ may_use (cell_view S.Store self.now) access.tx access.item (writes_in access.mode) }
+        ensures within { is_ok result ≡ true → access.item < S.K }
+    {
+        let cohort = self.active(access.tx)?;
+        if access.item >= S::K {
+            return Err(CellFault::NoItem(access.item));
         }
-        if item >= S::item_count(S::K) {
-            return Err(CellFault::NoItem(item));
-        }
-        match clash(self.cohorts.as_slice(), tx, item, writing) {
+        match clash(self.cohorts.as_slice(), access) {
             Some(other) => Err(CellFault::Held(other)),
             None => Ok(cohort),
         }
     }
 
-    // What a transaction reads that may use the item: its own staged payload, else the newest version's.
-    fn value(&self, own: bool, item: usize) -> Option<S::Payload>
-        requires { item < S.width }
-        ensures { result ≡ (if own then (cell_view S.Store self.now).stagings item else newest_at (cell_view S.Store self.now) item) }
+    // What the cohort reads at the item: its own staged payload, else the newest version's.
+    fn value(&self, cohort: &Cohort, item: usize) -> Option<S::Payload>
+        requires { item < S.K }
+        ensures { result ≡ value_for (cell_view S.Store self.now) cohort.now item }
     {
-        if own {
-            return match self.store.staged(item) {
-                Ok(staged) => staged,
-                Err(_) => None,
-            };
-        }
-        match self.store.newest(item) {
-            Ok(Some(version)) => Some(version.payload),
-            _ => None,
+        if cohort.writes.contains(item) {
+            self.store.staged(item).ok()?
+        } else {
+            let newest = self.store.newest(item).ok()?;
+            newest.map(|version| version.payload)
         }
     }
 
@@ -97,8 +95,12 @@ impl<S: Store> Cell<S> {
         ensures value { result ≡ read_told (cell_view S.Store self.old) tx item }
         ensures after { cell_view S.Store self.new ≡ read_done (cell_view S.Store self.old) tx item }
     {
-        let cohort = self.may_use(tx, item, false)?;
-        let value = self.value(cohort.writes.contains(item), item);
+        let cohort = self.may_use(Access {
+            tx,
+            item,
+            mode: Mode::Read,
+        })?;
+        let value = self.value(&cohort, item);
         self.cohorts.step(tx, Event::Read(item));
         Ok(value)
     }
@@ -108,10 +110,14 @@ impl<S: Store> Cell<S> {
         ensures value { result ≡ write_told (cell_view S.Store self.old) tx item }
         ensures after { cell_view S.Store self.new ≡ write_done (cell_view S.Store self.old) tx item payload }
     {
-        self.may_use(tx, item, true)?;
-        if self.store.stage(item, payload).is_err() {
-            return Err(CellFault::NoRow(item));
-        }
+        self.may_use(Access {
+            tx,
+            item,
+            mode: Mode::Write,
+        })?;
+        self.store
+            .stage(item, payload)
+            .map_err(|_| CellFault::NoRow(item))?;
         self.cohorts.step(tx, Event::Write(item));
         Ok(())
     }

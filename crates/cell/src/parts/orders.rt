@@ -6,7 +6,7 @@ ghost use Rattle.table.specs.Contents.{reply_in};
 ghost use Rattle.cell.specs.View.{cell_view};
 
 use crate::parts::Cell;
-use cohort::{Ending, Event, State, ballot};
+use cohort::{Cohort, Ending, Event, State, ballot};
 use endings::{install_all, unstage_all};
 use protocol::{CellFault, Order, Report, Vote};
 use store::Store;
@@ -22,7 +22,7 @@ impl<S: Store> Cell<S> {
             Ending::Unstage(items) => unstage_all(&mut self.store, items),
             Ending::Install(items, time) => {
                 install_all(&mut self.store, items, time);
-                self.last = self.last.max(time);
+                self.timing.last = self.timing.last.max(time);
             }
         }
     }
@@ -32,32 +32,22 @@ impl<S: Store> Cell<S> {
         ensures value { result ≡ report_in (reply_in step_reply (cohort_of (cell_view S.Store self.old) tx) event) }
         ensures after { cell_view S.Store self.new ≡ acted (cell_view S.Store self.old) tx event }
     {
-        match self.cohorts.step(tx, event) {
-            Some(reaction) => {
-                self.finish(reaction.ending);
-                reaction.report
-            }
-            None => None,
-        }
+        let reaction = self.cohorts.step(tx, event)?;
+        self.finish(reaction.ending);
+        reaction.report
     }
 
     // The vote that the transaction would cast now.
     fn vote_now(&self, tx: u64) -> Vote
         ensures { result ≡ ballot_for (cell_view S.Store self.now) tx }
     {
-        let Some(cohort) = self.cohorts.find(tx) else {
-            return Vote::No;
-        };
-        match cohort.state {
-            State::Active(start) => ballot(
-                self.cohorts.as_slice(),
-                self.last,
-                self.clock,
-                self.spread,
-                cohort.tx,
-                start,
-                cohort.writes,
-            ),
+        match self.cohorts.find(tx) {
+            Some(
+                voter @ Cohort {
+                    state: State::Active(start),
+                    ..
+                },
+            ) => ballot(self.cohorts.as_slice(), self.timing, &voter, start),
             _ => Vote::No,
         }
     }
@@ -66,13 +56,10 @@ impl<S: Store> Cell<S> {
     pub fn replies(&self, tx: u64, order: Order) -> bool
         ensures { result ≡ is_some (report_of (cell_view S.Store self.now) tx order) }
     {
-        let Some(cohort) = self.cohorts.find(tx) else {
-            return false;
-        };
-        match (cohort.state, order) {
-            (State::Done, Order::Prepare) => false,
-            _ => true,
-        }
+        self.cohorts.find(tx).is_some_and(|cohort| !matches!(
+            (cohort.state, order),
+            (State::Done, Order::Prepare)
+        ))
     }
 
     // Acts on the order, and answers what is reported back.
@@ -89,12 +76,7 @@ impl<S: Store> Cell<S> {
         ensures value { result ≡ leave_told (cell_view S.Store self.old) tx }
         ensures after { cell_view S.Store self.new ≡ leave_done (cell_view S.Store self.old) tx }
     {
-        let Some(cohort) = self.cohorts.find(tx) else {
-            return Err(CellFault::NotActive);
-        };
-        if !cohort.state.is_active() {
-            return Err(CellFault::NotActive);
-        }
+        self.active(tx)?;
         self.act(tx, Event::Leave);
         Ok(())
     }

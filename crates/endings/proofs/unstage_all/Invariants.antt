@@ -2,8 +2,8 @@ use Rattle.std.proofs.Common.{◌≡◌}
 use Rattle.endings.specs.After.{cleared_to}
 use Rattle.endings.proofs.unstage_all.Given as goal
 
-abbrev pub invariant-loop-i : goal.invariant-loop-i
-invariant-loop-i g l =
+abbrev pub invariant-loop-item : goal.invariant-loop-item
+invariant-loop-item g l =
     (g.S.Store.versions l.store ≡ g.S.Store.versions l.initial.store)
-    × (g.S.Store.stagings l.store ≡ cleared_to g.S.Store.width (g.S.Store.stagings l.initial.store) l.items l.i)
+    × (g.S.Store.stagings l.store ≡ cleared_to g.S.Store.K (g.S.Store.stagings l.initial.store) l.items l.item)
     × (g.S.Store.capacity l.store ≡ g.S.Store.capacity l.initial.store)

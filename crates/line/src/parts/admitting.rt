@@ -1,26 +1,34 @@
 // Who may: the upper causes of refusal, which most calls share.
-ghost use Rattle.std.specs.Prelude.{◌≡◌};
-ghost use Rattle.model.specs.Lines.{admit as admits, admit_at};
+ghost use Rattle.std.specs.Prelude.{◌≡◌, ok_or};
+ghost use Rattle.protocol.specs.declared.faults.Fault.TheVariants.{NotLive};
+ghost use Rattle.model.specs.Lines.{transaction_of, admit as admits, admit_at, from_cell};
 ghost use Rattle.line.specs.View.{line_view};
 
 use crate::parts::Line;
+use cells::FourCells;
 use coordinator::{Allowed, Transaction};
-use protocol::{Fault, Site};
-use store::Store;
+use protocol::{CellFault, Fault, Site};
 
-impl<
-    S: Store,
-    T: Store<Payload = S::Payload>,
-    U: Store<Payload = S::Payload>,
-    V: Store<Payload = S::Payload>,
-> Line<S, T, U, V> {
+// A refusal that arose at a cell, with its site.
+pub(super) fn at_cell<T>(site: Site, told: Result<T, CellFault>) -> Result<T, Fault>
+    ensures { result ≡ from_cell site told }
+{
+    told.map_err(|fault| Fault::AtCell(site, fault))
+}
+
+impl<C: FourCells> Line<C> {
+    // The transaction, if it is live.
+    pub(super) fn live(&self, tx: u64) -> Result<Transaction, Fault>
+        ensures { result ≡ ok_or (transaction_of (line_view C.view self.now) tx) (NotLive tx) }
+    {
+        self.transactions.find(tx).ok_or(Fault::NotLive(tx))
+    }
+
     // The transaction, if it is live and at a stage that the call allows.
     pub(super) fn admit(&self, tx: u64, allowed: Allowed) -> Result<Transaction, Fault>
-        ensures { result ≡ admits (line_view S.Store T.Store U.Store V.Store self.now) tx allowed }
+        ensures { result ≡ admits (line_view C.view self.now) tx allowed }
     {
-        let Some(transaction) = self.transactions.find(tx) else {
-            return Err(Fault::NotLive(tx));
-        };
+        let transaction = self.live(tx)?;
         if !allowed.allows(transaction.stage) {
             return Err(Fault::WrongStage(tx));
         }
@@ -29,14 +37,10 @@ impl<
 
     // The cell's site, if there is one and the transaction may use it.
     pub(super) fn admit_at(&self, tx: u64, cell: usize, allowed: Allowed) -> Result<Site, Fault>
-        ensures { result ≡ admit_at (line_view S.Store T.Store U.Store V.Store self.now) tx cell allowed }
+        ensures { result ≡ admit_at (line_view C.view self.now) tx cell allowed }
     {
-        let Some(transaction) = self.transactions.find(tx) else {
-            return Err(Fault::NotLive(tx));
-        };
-        let Some(site) = Site::from_number(cell) else {
-            return Err(Fault::NoCell(cell));
-        };
+        let transaction = self.live(tx)?;
+        let site = Site::try_from(cell)?;
         if !allowed.allows(transaction.stage) {
             return Err(Fault::WrongStage(tx));
         }

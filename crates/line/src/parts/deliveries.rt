@@ -1,13 +1,14 @@
 // Deliveries: a message acts on its receiver.
 ghost use Rattle.std.specs.Prelude.{◌≡◌, Some};
-ghost use Rattle.table.specs.Contents.{nth_in};
-ghost use Rattle.model.specs.Lines.{transaction_of, order_told, order_done, report_told, report_done, deliver_by, deliver_done_by, order_delivery, concluded, shut as shut_in};
+ghost use Rattle.protocol.specs.declared.calls.Call.TheVariants.{Deliver};
+ghost use Rattle.model.specs.Calls.{delivered, told, did};
+ghost use Rattle.model.specs.Lines.{transaction_of, order_told, order_done, report_told, report_done, order_delivery, concluded, shut as shut_in};
 ghost use Rattle.line.specs.View.{line_view};
 
 use crate::parts::Line;
+use cells::FourCells;
 use coordinator::{Event, Transaction};
 use protocol::{Body, Decision, Delivery, Fault, Order, PerSite, Report, Site, Vote};
-use store::Store;
 use table::Machine;
 
 // What the delivery of an order answers, by the report that it brings.
@@ -22,15 +23,10 @@ fn order_answer(report: Option<Report>) -> Delivery
     }
 }
 
-impl<
-    S: Store,
-    T: Store<Payload = S::Payload>,
-    U: Store<Payload = S::Payload>,
-    V: Store<Payload = S::Payload>,
-> Line<S, T, U, V> {
+impl<C: FourCells> Line<C> {
     // The transaction closes.
     pub(super) fn shut(&mut self, tx: u64)
-        ensures { line_view S.Store T.Store U.Store V.Store self.new ≡ shut_in (line_view S.Store T.Store U.Store V.Store self.old) tx }
+        ensures { line_view C.view self.new ≡ shut_in (line_view C.view self.old) tx }
     {
         self.cells.close(tx);
         self.transactions.forget(tx);
@@ -38,14 +34,11 @@ impl<
 
     // The cell acts on the order, and its report goes to the post.
     fn deliver_order(&mut self, tx: u64, site: Site, order: Order) -> Result<Delivery, Fault>
-        ensures value { result ≡ order_told (line_view S.Store T.Store U.Store V.Store self.old) tx site order }
-        ensures after { line_view S.Store T.Store U.Store V.Store self.new ≡ order_done (line_view S.Store T.Store U.Store V.Store self.old) tx site order }
+        ensures value { result ≡ order_told (line_view C.view self.old) tx site order }
+        ensures after { line_view C.view self.new ≡ order_done (line_view C.view self.old) tx site order }
     {
-        if self.cells.replies(site, tx, order) {
-            if let Err(places) = self.post.room(1) {
-                return Err(Fault::NoRoom(places));
-            }
-        }
+        let reports = usize::from(self.cells.replies(site, tx, order));
+        self.post.room(reports)?;
         let report = self.cells.receive(site, tx, order);
         if let Some(sent) = report {
             self.post.send_report(tx, site, sent);
@@ -55,22 +48,16 @@ impl<
 
     // Sends what the coordinator's answer announces, and closes the transaction with the last acknowledgement.
     fn conclude(&mut self, tx: u64, joined: PerSite<bool>, answer: Delivery)
-        ensures { line_view S.Store T.Store U.Store V.Store self.new ≡ concluded (line_view S.Store T.Store U.Store V.Store self.old) tx joined answer }
+        ensures { line_view C.view self.new ≡ concluded (line_view C.view self.old) tx joined answer }
     {
-        match answer {
-            Delivery::Committed(time) => {
-                let _ = self
-                    .post
-                    .send_orders(joined, tx, Order::Decide(Decision::Commit(time)));
-            }
-            Delivery::Aborted => {
-                let _ = self
-                    .post
-                    .send_orders(joined, tx, Order::Decide(Decision::Abort));
-            }
-            Delivery::Closed => self.shut(tx),
-            _ => {}
-        }
+        let decision = match answer {
+            Delivery::Committed(time) => Decision::Commit(time),
+            Delivery::Aborted => Decision::Abort,
+            Delivery::Closed => return self.shut(tx),
+            _ => return,
+        };
+        // Whoever delivered the report saw that there is room.
+        let _ = self.post.send_orders(joined, tx, Order::Decide(decision));
     }
 
     // The coordinator acts on the report.
@@ -81,13 +68,11 @@ impl<
         site: Site,
         report: Report,
     ) -> Result<Delivery, Fault>
-        requires { transaction_of (line_view S.Store T.Store U.Store V.Store self.old) tx ≡ Some transaction }
-        ensures value { result ≡ report_told (line_view S.Store T.Store U.Store V.Store self.old) transaction site report }
-        ensures after { line_view S.Store T.Store U.Store V.Store self.new ≡ report_done (line_view S.Store T.Store U.Store V.Store self.old) tx transaction site report }
+        requires { transaction_of (line_view C.view self.old) tx ≡ Some transaction }
+        ensures value { result ≡ report_told (line_view C.view self.old) transaction site report }
+        ensures after { line_view C.view self.new ≡ report_done (line_view C.view self.old) tx transaction site report }
     {
-        if let Err(places) = self.post.room(transaction.sends(site, report)) {
-            return Err(Fault::NoRoom(places));
-        }
+        self.post.room(transaction.sends(site, report))?;
         let Some(answer) = self.transactions.step(tx, Event::Receive(site, report)) else {
             return Ok(Delivery::Stale);
         };
@@ -96,12 +81,10 @@ impl<
     }
 
     pub(super) fn deliver_step(&mut self, place: usize) -> Result<Delivery, Fault>
-        ensures value { result ≡ deliver_by (line_view S.Store T.Store U.Store V.Store self.old) place (nth_in (line_view S.Store T.Store U.Store V.Store self.old).post place) }
-        ensures after { line_view S.Store T.Store U.Store V.Store self.new ≡ deliver_done_by (line_view S.Store T.Store U.Store V.Store self.old) (nth_in (line_view S.Store T.Store U.Store V.Store self.old).post place) }
+        ensures value { delivered result ≡ told (line_view C.view self.old) (Deliver place) }
+        ensures after { line_view C.view self.new ≡ did (line_view C.view self.old) (Deliver place) }
     {
-        let Some(message) = self.post.nth(place) else {
-            return Err(Fault::NoMessage(place));
-        };
+        let message = self.post.nth(place).ok_or(Fault::NoMessage(place))?;
         let Some(transaction) = self.transactions.find(message.tx) else {
             return Ok(Delivery::Stale);
         };

@@ -1,16 +1,17 @@
-ghost use Rattle.std.specs.Prelude.{◌≡◌, List, [], ◌∷◌, ◌++◌, IfOk, MatchResult};
-ghost use Rattle.answer_text.specs.Buffers.{Room};
+ghost use Rattle.std.specs.Prelude.{◌≡◌, [], ◌∷◌, ◌++◌, Some, IfOk, MatchResult};
 ghost use Rattle.answer_text.specs.Texts.{script_text};
 ghost use Rattle.answer_text.specs.declared.faults.ScriptFault.TheVariants.{TooLong};
-ghost use Rattle.script.specs.Sessions.{session_view, Unset, Chooses, Replies};
+ghost use Rattle.script.specs.Sessions.{session_view, Unset, kind_after, Begins, Chooses, Replies};
 
 use crate::answering::answer;
-use crate::making::{new_counts, new_poses};
+use crate::making::new_line;
 use crate::session::Session;
-use answer_text::{LINE_ROOM, ScriptFault, append_answer, append_script_fault};
+use answer_text::{LINE_ROOM, ScriptFault, answer_line, script_fault_line};
+use arrayvec::ArrayString;
 use command::{Kind, parse_kind};
 use protocol::Answer;
 use std::alloc::{AllocError, Global};
+use store::Unmade;
 
 impl Session {
     pub fn new() -> Self
@@ -19,88 +20,55 @@ impl Session {
         Session::NoKind
     }
 
+    // A session that runs on a new line.
+    fn start(heap: Global, kind: Kind) -> Result<Self, Unmade>
+        ensures { IfOk result (λ session. (session_view session ≡ kind_after (Some kind)) × Begins (session_view session)) }
+    {
+        match kind {
+            Kind::Count => Ok(Session::Counts(new_line(heap)?)),
+            Kind::Pose => Ok(Session::Poses(new_line(heap)?)),
+        }
+    }
+
     // The first kind line makes the line that the script runs on.
     fn choose(
         &mut self,
         heap: Global,
         number: u64,
         text: &[u8],
-        out: &mut Vec<u8>,
-    ) -> Result<(), AllocError>
-        requires unset { session_view self.old ≡ Unset }
-        requires empty { out.old.items ≡ [] }
-        requires room { Room 64 out.old }
-        ensures { MatchResult result (λ _. Chooses number text.now out.new.items (session_view self.new)) (λ _. session_view self.new ≡ Unset) }
+    ) -> Result<ArrayString<LINE_ROOM>, AllocError>
+        requires { session_view self.old ≡ Unset }
+        ensures { MatchResult result (λ printed. Chooses number text.now printed.bytes (session_view self.new)) (λ _. session_view self.new ≡ Unset) }
     {
-        match parse_kind(text) {
-            Some(Kind::Count) => {
-                let Ok(line) = new_counts(heap) else {
-                    return Err(AllocError);
-                };
-                *self = Session::Counts(line);
-                append_answer(out, &Answer::<u64>::Accepted);
-                Ok(())
-            }
-            Some(Kind::Pose) => {
-                let Ok(line) = new_poses(heap) else {
-                    return Err(AllocError);
-                };
-                *self = Session::Poses(line);
-                append_answer(out, &Answer::<u64>::Accepted);
-                Ok(())
-            }
-            None => {
-                append_script_fault(out, ScriptFault::Malformed(number));
-                Ok(())
-            }
-        }
+        let Some(kind) = parse_kind(text) else {
+            return Ok(script_fault_line(ScriptFault::Malformed(number)));
+        };
+        // Eight items are in range, so that a line is unmade for want of memory alone.
+        *self = Session::start(heap, kind).map_err(|_| AllocError)?;
+        Ok(answer_line(&Ok(Answer::<u64>::Accepted)))
     }
 
-    fn reply(
-        &mut self,
-        heap: Global,
-        number: u64,
-        text: &[u8],
-        out: &mut Vec<u8>,
-    ) -> Result<(), AllocError>
-        requires empty { out.old.items ≡ [] }
-        requires room { Room 64 out.old }
-        ensures { MatchResult result (λ _. Replies (session_view self.old) number text.now out.new.items (session_view self.new)) (λ _. session_view self.new ≡ session_view self.old) }
-    {
-        match self {
-            Session::NoKind => self.choose(heap, number, text, out),
-            Session::Counts(line) => {
-                answer(line, number, text, out);
-                Ok(())
-            }
-            Session::Poses(line) => {
-                answer(line, number, text, out);
-                Ok(())
-            }
-        }
-    }
-
-    // The bytes printed for the script's line with this number, counted from 1. Memory for them is taken first; where there is none,
-    // nothing has changed.
+    // What is printed for the script's line with this number, counted from 1. Only the kind line takes memory; where there is
+    // none, nothing has changed.
     pub fn answer_line(
         &mut self,
         heap: Global,
         number: u64,
         text: &[u8],
-    ) -> Result<Vec<u8>, AllocError>
-        ensures { MatchResult result (λ bytes. Replies (session_view self.old) number text.now bytes.items (session_view self.new)) (λ _. session_view self.new ≡ session_view self.old) }
+    ) -> Result<ArrayString<LINE_ROOM>, AllocError>
+        ensures { MatchResult result (λ printed. Replies (session_view self.old) number text.now printed.bytes (session_view self.new)) (λ _. session_view self.new ≡ session_view self.old) }
     {
-        let mut out = Vec::with_capacity(heap, LINE_ROOM)?;
-        self.reply(heap, number, text, &mut out)?;
-        Ok(out)
+        match self {
+            Session::NoKind => self.choose(heap, number, text),
+            Session::Counts(line) => Ok(answer(line, number, text)),
+            Session::Poses(line) => Ok(answer(line, number, text)),
+        }
     }
 }
 
-// The bytes printed for a script that is too long; nothing of it is run.
-pub fn too_long(heap: Global) -> Result<Vec<u8>, AllocError>
-    ensures { IfOk result (λ bytes. bytes.items ≡ script_text TooLong ++ (10 ∷ [])) }
+// What is printed for a script that is too long; nothing of it is run.
+pub fn too_long() -> ArrayString<LINE_ROOM>
+    ensures { result.bytes ≡ script_text TooLong ++ (10 ∷ []) }
 {
-    let mut out = Vec::with_capacity(heap, LINE_ROOM)?;
-    append_script_fault(&mut out, ScriptFault::TooLong);
-    Ok(out)
+    script_fault_line(ScriptFault::TooLong)
 }

@@ -6,12 +6,12 @@ use Rattle.store_runs.proofs.answer_all.Goals as goal
 pub loop-call-preserved : goal.loop-call-preserved
 loop-call-preserved g c =
     let m = meant g.S.Store c.loop-call.store in
-    let n = meant g.S.Store c.answer_call.new.store in
+    let n = meant g.S.Store c.make_call.new.store in
     let cs = c.args.calls.now in
     let l : c.loop-call.call-index < length c.args.calls.now = omega arith in (
-      answers_step m n cs c.loop-call.call-index c.call-item.result c.answer_call.result (vec_items c.loop-call.answers) (vec_items c.push_reserved.new.self)
-          l c.call-item.is c.answer_call.ensures.answer c.answer_call.ensures.after c.push_reserved.ensures.items ∙ c.loop-call.invariant.0,
-      after_step m n cs c.loop-call.call-index c.call-item.result l c.call-item.is c.answer_call.ensures.after ∙ c.loop-call.invariant.1,
+      answers_step m n cs c.loop-call.call-index c.call-item.result c.make_call.result (vec_items c.loop-call.answers) (vec_items c.push_reserved.new.self)
+          l c.call-item.is c.make_call.ensures.answer c.make_call.ensures.after c.push_reserved.ensures.items ∙ c.loop-call.invariant.0,
+      after_step m n cs c.loop-call.call-index c.call-item.result l c.call-item.is c.make_call.ensures.after ∙ c.loop-call.invariant.1,
       search rules,
       search rules,
     )

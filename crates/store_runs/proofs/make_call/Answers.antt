@@ -1,18 +1,28 @@
-use Rattle.std.proofs.Common.{sym, ap, ◌∙◌}
-use Rattle.store_runs.specs.Ledger.{is_refused}
+use Rattle.std.proofs.Common.{rules}
 use Rattle.store_runs.specs.Plain.{meant}
-use Rattle.store_runs.proofs.Accepting.{refused_same}
 use Rattle.store_runs.proofs.Counting.{free_after}
 use Rattle.store_runs.proofs.make_call.Goals as goal
 
-pub returns : goal.returns
-returns g c =
-    let m = meant g.S.Store c.args.store.now in
-    let n = meant g.S.Store c.answer_call-answer.new.store in
-    let a = c.answer_call-answer.ensures.after in
-    record {
-      answer = c.answer_call-answer.ensures.answer;
-      after = c.answer_call-answer.ensures.after;
-      refusal = λ e. a ∙ refused_same m c.args.call (ap is_refused (sym c.answer_call-answer.ensures.answer) ∙ e);
-      rows = free_after m n c.args.call a c.lawful.ensures.fits c.lawful-2.ensures.fits;
-    }
+pub returns-in-Stage-clause-rows : goal.returns-in-Stage-clause-rows
+returns-in-Stage-clause-rows g c =
+    let old = c.args.store.now in
+    let new = c.stage.new.self in
+    free_after (meant g.S.Store old) (meant g.S.Store new) c.args.call (search rules) (g.met.S.Store.fits old) (g.met.S.Store.fits new)
+
+pub returns-in-Unstage-clause-rows : goal.returns-in-Unstage-clause-rows
+returns-in-Unstage-clause-rows g c =
+    let old = c.args.store.now in
+    let new = c.unstage.new.self in
+    free_after (meant g.S.Store old) (meant g.S.Store new) c.args.call (search rules) (g.met.S.Store.fits old) (g.met.S.Store.fits new)
+
+pub returns-in-Install-clause-rows : goal.returns-in-Install-clause-rows
+returns-in-Install-clause-rows g c =
+    let old = c.args.store.now in
+    let new = c.install.new.self in
+    free_after (meant g.S.Store old) (meant g.S.Store new) c.args.call (search rules) (g.met.S.Store.fits old) (g.met.S.Store.fits new)
+
+pub returns-in-Clear-clause-rows : goal.returns-in-Clear-clause-rows
+returns-in-Clear-clause-rows g c =
+    let old = c.args.store.now in
+    let new = c.clear.new.self in
+    free_after (meant g.S.Store old) (meant g.S.Store new) c.args.call (search rules) (g.met.S.Store.fits old) (g.met.S.Store.fits new)

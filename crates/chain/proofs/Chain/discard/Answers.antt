@@ -23,8 +23,8 @@ invariant_of-self g c =
       rises = n.rises;
     }
 
-pub returns : goal.returns
-returns g c =
+pub returns-in-Some : goal.returns-in-Some
+returns-in-Some g c =
     let h = sound c.args.self.now in
     record {
       stagings = unstage_staged h c.args.item c.in-Some.place (omega arith) c.in-Some.is;

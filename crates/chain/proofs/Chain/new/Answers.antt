@@ -4,7 +4,7 @@ use Rattle.chain.proofs.Chain.new.Goals as goal
 
 pub invariant_of-result : goal.invariant_of-result
 invariant_of-result g c =
-    let n = fresh_sound g.row.P.Denot (vec_items c.fill.new.rows) c.row_before.result c.min-capacity.result g.row.N c.fill.ensures.value c.row_before.ensures in
+    let n = fresh_sound g.row.P.Denot (vec_items c.fill.new.rows) c.row_before.result c.in_ok-capacity.capacity g.row.N c.fill.ensures.value c.row_before.ensures in
     record {
       small = search rules;
       room = search rules;
@@ -22,6 +22,6 @@ returns g c = (
   search rules,
   (
     (fresh_versions g.row.P.Denot (vec_items c.fill.new.rows) g.row.N, fresh_staged g.row.P.Denot (vec_items c.fill.new.rows) g.row.N),
-    c.fill.ensures.len ∙ c.min-capacity.ensures,
+    c.fill.ensures.len ∙ c.in_ok-capacity.ensures.2,
   ),
 )

@@ -17,8 +17,8 @@ returns-in-Some g c =
     let rows = c.args.self.now.rows.items in
     let slot = slot_at c.args.self.now.slots c.args.item in
     let f = look_read rows c.in-Some.place c.index.result.now c.index.result.now (newest_in h c.args.item c.in-Some.place c.in-Some.is) c.index.ensures in
-    answered g.row.N c.args.item c.version_of.result (last_of (versions_of rows c.args.self.now.slots c.args.item)) (omega arith)
-    (c.version_of.ensures ∙ sym (newest_some c.args.item rows slot.count c.in-Some.place slot.newest c.index.result.now c.in-Some.is (h.links c.args.item) f))
+    answered g.row.N c.args.item c.version.result (last_of (versions_of rows c.args.self.now.slots c.args.item)) (omega arith)
+    (c.version.ensures ∙ sym (newest_some c.args.item rows slot.count c.in-Some.place slot.newest c.index.result.now c.in-Some.is (h.links c.args.item) f))
 
 pub returns-in-None : goal.returns-in-None
 returns-in-None g c =

@@ -15,5 +15,5 @@ returns-in-Some g c =
     let rows = c.args.self.now.rows.items in
     let f = look_read rows c.in-Some.place c.index.result.now c.index.result.now
     (staged_in_lem (sound c.args.self.now) c.args.item c.in-Some.place c.in-Some.is) c.index.ensures in
-    answered g.row.N c.args.item c.payload_of.result (staged_of rows c.args.self.now.slots c.args.item) (omega arith)
-    (c.payload_of.ensures ∙ sym (ap (staged_at rows) c.in-Some.is ∙ ap payload_at f))
+    answered g.row.N c.args.item c.payload.result (staged_of rows c.args.self.now.slots c.args.item) (omega arith)
+    (c.payload.ensures ∙ sym (ap (staged_at rows) c.in-Some.is ∙ ap payload_at f))

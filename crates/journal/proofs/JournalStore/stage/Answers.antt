@@ -4,8 +4,8 @@ use Rattle.store.specs.Meaning.{with, rising}
 use Rattle.store.proofs.Answering.{stage_over, stage_new, stage_full}
 use Rattle.journal.specs.declared.Row.TheVariants.{Staged}
 use Rattle.journal.specs.Rows.{versions_of, staged_of, sound}
-use Rattle.journal.proofs.Count.{used_is}
-use Rattle.journal.proofs.Order.{found_at, found_none, staged_self, is_staged_lem}
+use Rattle.journal.specs.Counts.{used_is}
+use Rattle.journal.proofs.Order.{staged_self, is_staged_lem}
 use Rattle.journal.proofs.Writes.{set_staged, set_sound, replaced_versions, push_staged, push_versions, push_sound}
 use Rattle.journal.proofs.JournalStore.stage.Goals as goal
 
@@ -14,7 +14,7 @@ pub invariant_of-self : goal.invariant_of-self
 invariant_of-self g c =
     let s = c.args.self.now in
     let rows = c.args.self.now.rows.items in
-    let at = found_at c.as_slice.result.now rows c.args.item c.in-Some.held c.as_slice.ensures.value c.in-Some.ensures in record {
+    let at = c.in-Some.ensures.1 in record {
       wide = s.wide;
       room = s.room;
       ordered = set_sound g.row.N rows c.in-Some.held.place c.args.item c.in-Some.held.payload (Staged c.args.item c.args.payload) s.ordered at refl;
@@ -25,7 +25,7 @@ pub returns-in-Some : goal.returns-in-Some
 returns-in-Some g c =
     let s = c.args.self.now in
     let rows = c.args.self.now.rows.items in
-    let at = found_at c.as_slice.result.now rows c.args.item c.in-Some.held c.as_slice.ensures.value c.in-Some.ensures in
+    let at = c.in-Some.ensures.1 in
     record {
       value = stage_over g.row.N s.capacity (versions_of rows) (staged_of rows) c.args.item (omega arith)
           (is_staged_lem g.row.N rows c.in-Some.held.place c.args.item c.in-Some.held.payload s.ordered at);
@@ -40,7 +40,7 @@ pub invariant_of-self-then-len-self : goal.invariant_of-self-then-len-self
 invariant_of-self-then-len-self g c =
     let s = c.args.self.now in
     let rows = c.args.self.now.rows.items in
-    let none = found_none c.as_slice.result.now rows c.args.item c.as_slice.ensures.value c.in-None.ensures in
+    let none = c.in-None.ensures in
     let i = c.push_reserved.ensures.items in record {
       wide = s.wide;
       room = search rules;
@@ -54,7 +54,7 @@ returns-in-None g c =
     let rows = c.args.self.now.rows.items in
     let u = used_is g.row.N rows c.args.self.now.ordered in
     let m = c.args.self.now.rows.ok.0 in
-    let none = found_none c.as_slice.result.now rows c.args.item c.as_slice.ensures.value c.in-None.ensures in
+    let none = c.in-None.ensures in
     let i = c.push_reserved.ensures.items in
     record {
       value = stage_new g.row.N s.capacity (versions_of rows) (staged_of rows) c.args.item (omega arith) none (omega arith);
@@ -70,7 +70,7 @@ returns-in-None-2 g c =
     let rows = c.args.self.now.rows.items in
     let u = used_is g.row.N rows c.args.self.now.ordered in
     let m = c.args.self.now.rows.ok.0 in
-    let none = found_none c.as_slice.result.now rows c.args.item c.as_slice.ensures.value c.in-None-2.ensures in
+    let none = c.in-None-2.ensures in
     record {
       value = stage_full g.row.N s.capacity (versions_of rows) (staged_of rows) c.args.item (omega arith) none (omega arith);
       stagings = refl;

@@ -1,11 +1,5 @@
-use Rattle.std.proofs.Common.{ap}
-use Rattle.protocol.specs.declared.calls.Call.TheVariants.{Join}
-use Rattle.model.specs.Calls.{accepted}
 use Rattle.serial.proofs.Theorem.{does}
-use Rattle.line.specs.View.{line_view}
 use Rattle.line.proofs.parts.Line.join.Goals as goal
 
 pub returns : goal.returns
-returns g c =
-    let v = line_view g.S.Store g.T.Store g.U.Store g.V.Store c.args.self.now in
-    does v (Join c.args.tx c.args.cell) (accepted c.join_step.result) (line_view g.S.Store g.T.Store g.U.Store g.V.Store c.join_step.new.self) (ap (λ r. accepted r) c.join_step.ensures.value) c.join_step.ensures.after
+returns g c = does _ _ _ _ c.join_step.ensures.value c.join_step.ensures.after
