@@ -3,6 +3,7 @@ use store::Store;
 
 mod calls;
 
+// Four parameters and no array, since the stores may be of four types.
 #[derive(Drop)]
 pub struct Cells<
     S: Store,

@@ -42,7 +42,7 @@ pub struct Slot {
 }
 
 // The store; `free` is the first unused row, of `left`.
-// `left` stands beside `free`, since a proof reads the links as so many rows; the slots are as many as the type has items.
+// As for the journal, no `impl Model`. `left` stands beside `free`, since a proof reads the links as so many rows; the slots are as many as the type has items.
 #[derive(Drop)]
 pub struct Chain<P, const N: usize> {
     rows: Vec<Row<P>>,

@@ -3,7 +3,7 @@ use pose::PoseBits;
 use protocol::Call;
 use std::test::Fail;
 
-// A call as its letter and its numbers, with 0 for those that it lacks.
+// A call as its letter and its numbers, with 0 for those that it lacks: expected values are read off the line, not made by the code.
 fn parts<P>(call: Call<P>) -> (char, u64, u64, u64)
 where
     P: Drop,

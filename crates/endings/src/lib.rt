@@ -1,4 +1,5 @@
-// What becomes of the payloads that a cohort staged: over the items of a set, in rising order.
+// What becomes of the payloads that a cohort staged: over the items of a set, in rising order. Clauses name a store's versions, staged
+// payloads and capacity one by one, as those of its trait do: a word for all three would hide which of them a call changes.
 #![tactic(auto)]
 
 ghost use Rattle.std.specs.Prelude.{◌≡◌, if◌then◌else◌, None};

@@ -28,6 +28,7 @@ struct Held<P> {
 }
 
 // The store; `rows` has memory for all of the capacity from the start.
+// Clauses name the rows' meaning by the functions that the store's ghost members are, and no `impl Model`, whose `Value` has no functions.
 // Rows stand in the order of staging; `capacity` stands beside them, since their memory may hold more than was asked for.
 #[derive(Drop)]
 pub struct Journal<P, const N: usize> {
