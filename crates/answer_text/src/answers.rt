@@ -2,84 +2,83 @@
 ghost use Rattle.std.specs.Prelude.{◌≡◌, [], ◌∷◌, ◌++◌};
 ghost use Rattle.answer_text.specs.Texts.{decision_text, stage_text, delivery_text, read_text, accepted_text, text_of};
 
-use crate::faults::fault_text;
+use crate::faults::fault_line;
 use crate::payloads::{PAYLOAD_ROOM, PayloadPrint};
-use crate::pieces::joined;
-use arrayvec::ArrayString;
+use crate::pieces::{joined, line_of};
+use arrayvec::ArrayVec;
 use itoa::Buffer;
 use protocol::{Answer, Decision, Delivery, Fault, Range, Stage};
 
 // Room for the line of any answer: its text and its newline.
 pub const LINE_ROOM: usize = 64;
 
-fn decision_text(decision: Decision) -> ArrayString<27>
-    ensures { result.bytes ≡ decision_text decision }
+fn decision_text(decision: Decision) -> ArrayVec<u8, 27>
+    ensures { result.items ≡ decision_text decision }
 {
     match decision {
-        Decision::Commit(time) => joined(&["commit ", Buffer::new().format(time)]),
-        Decision::Abort => joined(&["abort"]),
+        Decision::Commit(time) => joined(&[b"commit ", Buffer::new().format(time).as_bytes()]),
+        Decision::Abort => joined(&[b"abort"]),
     }
 }
 
-fn stage_text(stage: Stage) -> ArrayString<27>
-    ensures { result.bytes ≡ stage_text stage }
+fn stage_text(stage: Stage) -> ArrayVec<u8, 27>
+    ensures { result.items ≡ stage_text stage }
 {
     match stage {
-        Stage::Open => joined(&["open"]),
-        Stage::Polling => joined(&["polling"]),
+        Stage::Open => joined(&[b"open"]),
+        Stage::Polling => joined(&[b"polling"]),
         Stage::Decided(decision) => decision_text(decision),
     }
 }
 
-fn delivery_text(delivery: Delivery) -> ArrayString<47>
-    ensures { result.bytes ≡ delivery_text delivery }
+fn delivery_text(delivery: Delivery) -> ArrayVec<u8, 47>
+    ensures { result.items ≡ delivery_text delivery }
 {
     match delivery {
         Delivery::Ranged(Range { earliest, latest }) => joined(&[
-            "range ",
-            Buffer::new().format(earliest),
-            " ",
-            Buffer::new().format(latest),
+            b"range ",
+            Buffer::new().format(earliest).as_bytes(),
+            b" ",
+            Buffer::new().format(latest).as_bytes(),
         ]),
-        Delivery::Declined => joined(&["out"]),
-        Delivery::Noted => joined(&["noted"]),
-        Delivery::Committed(time) => joined(&["commit ", Buffer::new().format(time)]),
-        Delivery::Aborted => joined(&["abort"]),
-        Delivery::Settled => joined(&["done"]),
-        Delivery::Stale => joined(&["stale"]),
-        Delivery::Closed => joined(&["closed"]),
+        Delivery::Declined => joined(&[b"out"]),
+        Delivery::Noted => joined(&[b"noted"]),
+        Delivery::Committed(time) => joined(&[b"commit ", Buffer::new().format(time).as_bytes()]),
+        Delivery::Aborted => joined(&[b"abort"]),
+        Delivery::Settled => joined(&[b"done"]),
+        Delivery::Stale => joined(&[b"stale"]),
+        Delivery::Closed => joined(&[b"closed"]),
     }
 }
 
 // What a read gave.
-fn read_text<P: PayloadPrint>(read: &Option<P>) -> ArrayString<PAYLOAD_ROOM>
-    ensures { result.bytes ≡ read_text P.shown read.now }
+fn read_text<P: PayloadPrint>(read: &Option<P>) -> ArrayVec<u8, PAYLOAD_ROOM>
+    ensures { result.items ≡ read_text P.shown read.now }
 {
     match read {
         Some(payload) => payload.text(),
-        None => joined(&["absent"]),
+        None => joined(&[b"absent"]),
     }
 }
 
-fn accepted_text<P: PayloadPrint>(answer: &Answer<P>) -> ArrayString<51>
-    ensures { result.bytes ≡ accepted_text P.shown answer.now }
+fn accepted_line<P: PayloadPrint>(answer: &Answer<P>) -> ArrayVec<u8, LINE_ROOM>
+    ensures { result.items ≡ accepted_text P.shown answer.now ++ (10 ∷ []) }
 {
     match answer {
-        Answer::Accepted => joined(&["ok"]),
-        Answer::Number(number) => joined(&["ok ", Buffer::new().format(*number)]),
-        Answer::Payload(read) => joined(&["ok ", &read_text(read)]),
-        Answer::Delivered(delivery) => joined(&["ok ", &delivery_text(*delivery)]),
-        Answer::Stands(stage) => joined(&["ok ", &stage_text(*stage)]),
+        Answer::Accepted => line_of(&[b"ok"]),
+        Answer::Number(number) => line_of(&[b"ok ", Buffer::new().format(*number).as_bytes()]),
+        Answer::Payload(read) => line_of(&[b"ok ", &read_text(read)]),
+        Answer::Delivered(delivery) => line_of(&[b"ok ", &delivery_text(*delivery)]),
+        Answer::Stands(stage) => line_of(&[b"ok ", &stage_text(*stage)]),
     }
 }
 
 // The line of what a call answers: its text and a newline.
-pub fn answer_line<P: PayloadPrint>(answer: &Result<Answer<P>, Fault>) -> ArrayString<LINE_ROOM>
-    ensures { result.bytes ≡ text_of P.shown answer.now ++ (10 ∷ []) }
+pub fn answer_line<P: PayloadPrint>(answer: &Result<Answer<P>, Fault>) -> ArrayVec<u8, LINE_ROOM>
+    ensures { result.items ≡ text_of P.shown answer.now ++ (10 ∷ []) }
 {
-    let text = match answer {
-        Ok(answer) => accepted_text(answer),
-        Err(fault) => fault_text(*fault),
-    };
-    joined(&[&text, "\n"])
+    match answer {
+        Ok(answer) => accepted_line(answer),
+        Err(fault) => fault_line(*fault),
+    }
 }

@@ -3,8 +3,8 @@ ghost use Rattle.std.specs.Prelude.{◌≡◌, ◌≤◌, [], ◌∷◌, ◌++�
 ghost use Rattle.answer_text.specs.Texts.{layer_text, refusal_text, fault_text, script_text};
 
 use crate::answers::LINE_ROOM;
-use crate::pieces::joined;
-use arrayvec::ArrayString;
+use crate::pieces::line_of;
+use arrayvec::ArrayVec;
 use itoa::Buffer;
 use protocol::{Fault, Layer};
 
@@ -20,17 +20,17 @@ pub enum ScriptFault {
     TooLong,
 }
 
-fn refusal_text(layer: &str, number: u64, detail: u64) -> ArrayString<51>
+fn refusal_line(layer: &str, number: u64, detail: u64) -> ArrayVec<u8, LINE_ROOM>
     requires { length layer.now ≤ 6 }
-    ensures { result.bytes ≡ refusal_text layer.now number detail }
+    ensures { result.items ≡ refusal_text layer.now number detail ++ (10 ∷ []) }
 {
-    joined(&[
-        "no ",
-        layer,
-        " ",
-        Buffer::new().format(number),
-        " ",
-        Buffer::new().format(detail),
+    line_of(&[
+        b"no ",
+        layer.as_bytes(),
+        b" ",
+        Buffer::new().format(number).as_bytes(),
+        b" ",
+        Buffer::new().format(detail).as_bytes(),
     ])
 }
 
@@ -46,24 +46,18 @@ fn layer_name(layer: Layer) -> &'static str
     }
 }
 
-pub(crate) fn fault_text(fault: Fault) -> ArrayString<51>
-    ensures { result.bytes ≡ fault_text fault }
+pub(crate) fn fault_line(fault: Fault) -> ArrayVec<u8, LINE_ROOM>
+    ensures { result.items ≡ fault_text fault ++ (10 ∷ []) }
 {
-    refusal_text(layer_name(fault.layer()), fault.number(), fault.detail())
-}
-
-fn script_text(fault: ScriptFault) -> ArrayString<51>
-    ensures { result.bytes ≡ script_text fault }
-{
-    match fault {
-        ScriptFault::Malformed(line) => refusal_text("script", 14, line),
-        ScriptFault::TooLong => refusal_text("script", 15, LONGEST_SCRIPT),
-    }
+    refusal_line(layer_name(fault.layer()), fault.number(), fault.detail())
 }
 
 // The line of a refusal by the script layer: its text and a newline.
-pub fn script_fault_line(fault: ScriptFault) -> ArrayString<LINE_ROOM>
-    ensures { result.bytes ≡ script_text fault ++ (10 ∷ []) }
+pub fn script_fault_line(fault: ScriptFault) -> ArrayVec<u8, LINE_ROOM>
+    ensures { result.items ≡ script_text fault ++ (10 ∷ []) }
 {
-    joined(&[&script_text(fault), "\n"])
+    match fault {
+        ScriptFault::Malformed(line) => refusal_line("script", 14, line),
+        ScriptFault::TooLong => refusal_line("script", 15, LONGEST_SCRIPT),
+    }
 }

@@ -1,9 +1,9 @@
 // How payloads are printed.
-ghost use Rattle.std.specs.Prelude.{◌≡◌, ℕ, List, decimal};
+ghost use Rattle.std.specs.Prelude.{◌≡◌, ◌≤◌, ℕ, List, decimal, length};
 ghost use Rattle.pose.specs.Texts.{joint_text, pose_text};
 
 use crate::pieces::joined;
-use arrayvec::ArrayString;
+use arrayvec::ArrayVec;
 use itoa::Buffer;
 use pose::{PoseBits, bits_to_degrees};
 
@@ -15,26 +15,27 @@ pub trait PayloadPrint {
     ghost shown: { Self → List ℕ };
 
     // The payload's text.
-    fn text(&self) -> ArrayString<PAYLOAD_ROOM>
-        ensures { result.bytes ≡ shown self.now };
+    fn text(&self) -> ArrayVec<u8, PAYLOAD_ROOM>
+        ensures { result.items ≡ shown self.now };
 }
 
 // A count is printed in decimal.
 impl PayloadPrint for u64 {
     ghost shown = { decimal };
 
-    fn text(&self) -> ArrayString<PAYLOAD_ROOM> {
-        joined(&[Buffer::new().format(*self)])
+    fn text(&self) -> ArrayVec<u8, PAYLOAD_ROOM> {
+        joined(&[Buffer::new().format(*self).as_bytes()])
     }
 }
 
 // An angle is printed in whole degrees, and as a question mark where it has none from -360 to 360.
-fn joint_text(bits: u32) -> ArrayString<4>
-    ensures { result.bytes ≡ joint_text bits }
+fn joint_text(bits: u32, digits: &mut Buffer) -> &[u8]
+    ensures value { result.now ≡ joint_text bits }
+    ensures bound { length result.now ≤ 4 }
 {
     match bits_to_degrees(bits) {
-        Some(degrees) => joined(&[Buffer::new().format(degrees)]),
-        None => joined(&["?"]),
+        Some(degrees) => digits.format(degrees).as_bytes(),
+        None => b"?",
     }
 }
 
@@ -42,15 +43,15 @@ fn joint_text(bits: u32) -> ArrayString<4>
 impl PayloadPrint for PoseBits {
     ghost shown = { pose_text };
 
-    fn text(&self) -> ArrayString<PAYLOAD_ROOM> {
+    fn text(&self) -> ArrayVec<u8, PAYLOAD_ROOM> {
         joined(&[
-            &joint_text(self.joint0),
-            " ",
-            &joint_text(self.joint1),
-            " ",
-            &joint_text(self.joint2),
-            " ",
-            &joint_text(self.joint3),
+            joint_text(self.joint0, &mut Buffer::new()),
+            b" ",
+            joint_text(self.joint1, &mut Buffer::new()),
+            b" ",
+            joint_text(self.joint2, &mut Buffer::new()),
+            b" ",
+            joint_text(self.joint3, &mut Buffer::new()),
         ])
     }
 }

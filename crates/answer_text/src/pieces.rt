@@ -1,19 +1,30 @@
 // Texts in pieces.
-ghost use Rattle.std.specs.Prelude.{◌≡◌, ◌≤◌, length, flat_map};
+ghost use Rattle.std.specs.Prelude.{◌≡◌, ◌<◌, ◌≤◌, [], ◌∷◌, ◌++◌, length, flat_map};
 
 use crate::answers::LINE_ROOM;
-use arrayvec::ArrayString;
+use arrayvec::ArrayVec;
 
 // The pieces one after another.
 // No `write!` and `Display` here: a formatter may answer an error, and once the line has changed there would be nothing to print.
-pub(crate) fn joined<const N: usize>(pieces: &[&str]) -> ArrayString<N>
+pub(crate) fn joined<const N: usize>(pieces: &[&[u8]]) -> ArrayVec<u8, N>
     requires room { length (flat_map (λ p. p.now) pieces.now) ≤ N }
     requires small { N ≤ LINE_ROOM }
-    ensures { result.bytes ≡ flat_map (λ p. p.now) pieces.now }
+    ensures { result.items ≡ flat_map (λ p. p.now) pieces.now }
 {
-    let mut text = ArrayString::new();
+    let mut text = ArrayVec::new();
     for piece in pieces {
-        text.push_str(piece);
+        let _fits = text.try_extend_from_slice(piece);
     }
     text
+}
+
+// The pieces one after another, and a newline: they go straight into the line, since a text that is copied while it is still being
+// written is waited for.
+pub(crate) fn line_of(pieces: &[&[u8]]) -> ArrayVec<u8, LINE_ROOM>
+    requires { length (flat_map (λ p. p.now) pieces.now) < LINE_ROOM }
+    ensures { result.items ≡ flat_map (λ p. p.now) pieces.now ++ (10 ∷ []) }
+{
+    let mut line = joined(pieces);
+    line.push(b'\n');
+    line
 }

@@ -52,7 +52,7 @@ const ANSWERS: [(Result<Answer<u64>, Fault>, &str); 20] = [
 #[test]
 fn answers_have_their_lines(rt: HostRuntime) {
     for (answer, line) in ANSWERS {
-        assert_eq!(rt; answer_line(&answer).as_str(), line);
+        assert_eq!(rt; answer_line(&answer).as_slice(), line.as_bytes());
     }
 }
 
@@ -72,19 +72,19 @@ fn poses_are_printed_in_degrees(rt: HostRuntime) {
     };
     let first = answer_line(&Ok(Answer::Payload(Some(pose))));
     let second = answer_line(&Ok(Answer::Payload(Some(lost))));
-    assert_eq!(rt; first.as_str(), "ok 360 -360 0 ?\n");
-    assert_eq!(rt; second.as_str(), "ok ? 1 ? ?\n");
+    assert_eq!(rt; first.as_slice(), b"ok 360 -360 0 ?\n".as_slice());
+    assert_eq!(rt; second.as_slice(), b"ok ? 1 ? ?\n".as_slice());
 }
 
 #[test]
 fn script_faults_have_their_lines(rt: HostRuntime) {
     assert_eq!(rt;
-        script_fault_line(ScriptFault::Malformed(12)).as_str(),
-        "no script 14 12\n"
+        script_fault_line(ScriptFault::Malformed(12)).as_slice(),
+        b"no script 14 12\n".as_slice()
     );
     assert_eq!(rt;
-        script_fault_line(ScriptFault::TooLong).as_str(),
-        "no script 15 65536\n"
+        script_fault_line(ScriptFault::TooLong).as_slice(),
+        b"no script 15 65536\n".as_slice()
     );
 }
 
@@ -97,9 +97,12 @@ fn the_longest_lines_have_room(rt: HostRuntime) {
     };
     let answer: Result<Answer<u64>, Fault> = Ok(Answer::Delivered(Delivery::Ranged(range)));
     assert_eq!(rt;
-        answer_line(&answer).as_str(),
-        "ok range 18446744073709551615 18446744073709551615\n"
+        answer_line(&answer).as_slice(),
+        b"ok range 18446744073709551615 18446744073709551615\n".as_slice()
     );
     let refusal = script_fault_line(ScriptFault::Malformed(u64::MAX));
-    assert_eq!(rt; refusal.as_str(), "no script 14 18446744073709551615\n");
+    assert_eq!(rt;
+        refusal.as_slice(),
+        b"no script 14 18446744073709551615\n".as_slice()
+    );
 }

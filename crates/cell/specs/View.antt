@@ -4,6 +4,7 @@ use Rattle.protocol.specs.declared.faults.CellFault.{CellFault}
 use Rattle.protocol.specs.declared.faults.CellFault.TheVariants.{NotActive}
 use Rattle.protocol.specs.Limits.{widest_spread}
 use Rattle.store.specs.declared.Store.{Ghosts}
+use Rattle.table.specs.Contents.{listed}
 use Rattle.cohort.specs.declared.kinds.Cohort.{Cohort}
 use Rattle.cohort.specs.Holds.{is_active}
 use Rattle.model.specs.Cells.{CellView}
@@ -18,7 +19,7 @@ cell_view g c = record {
   clock = c.timing.clock;
   spread = c.timing.spread;
   last = c.timing.last;
-  cohorts = c.cohorts;
+  cohorts = listed c.cohorts;
 }
 
 -- a cell over a cleared store

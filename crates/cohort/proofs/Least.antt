@@ -1,9 +1,8 @@
--- The smallest of the transactions in the way, as the minimum of a filtered list.
-use Rattle.std.proofs.Common.{◌≡◌, ℕ, min, Bool, true, false, cond, List, [], ◌∷◌, map, filter, Some, None, Option, refl, ap, ◌∙◌}
-use Rattle.std.specs.List.{fold, reduce}
-use Rattle.std.specs.Option.{option_map}
+-- The smallest of the transactions in the way, as a fold over a filtered list.
+use Rattle.std.proofs.Common.{◌≡◌, ℕ, Bool, true, false, cond, List, [], ◌∷◌, map, filter, None, Option, refl, ap, ◌∙◌}
+use Rattle.std.specs.List.{fold}
 use Rattle.cohort.specs.declared.kinds.Cohort.{Cohort}
-use Rattle.cohort.specs.Holds.{blocking, blockers, smallest}
+use Rattle.cohort.specs.Holds.{blocking, blockers, lesser, smallest}
 use Rattle.cohort.specs.Steps.{tx_of}
 
 blockers_filtered : (x i : ℕ) (w : Bool) (cs : List Cohort) → map tx_of (filter (blocking x i w) cs) ≡ blockers x i w cs
@@ -15,17 +14,9 @@ blockers_filtered x i w (c ∷ cs) = go (blocking x i w c) (blockers_filtered x 
     go true e = ap (λ ns. c.tx ∷ ns) e
     go false e = e
 
-smallest_fold : (m : ℕ) (ns : List ℕ) → Some (fold min m ns) ≡ smallest (Some m) ns
-smallest_fold m [] = refl
-smallest_fold m (n ∷ ns) = smallest_fold (min m n) ns
+smallest_fold : (o : Option ℕ) (ns : List ℕ) → fold lesser o ns ≡ smallest o ns
+smallest_fold o [] = refl
+smallest_fold o (n ∷ ns) = smallest_fold (lesser o n) ns
 
-smallest_reduce : (ns : List ℕ) → reduce min ns ≡ smallest None ns
-smallest_reduce [] = refl
-smallest_reduce (n ∷ ns) = smallest_fold n ns
-
-pub smallest_filtered : (x i : ℕ) (w : Bool) (cs : List Cohort) → reduce min (map tx_of (filter (blocking x i w) cs)) ≡ smallest None (blockers x i w cs)
-smallest_filtered x i w cs = ap (reduce min) (blockers_filtered x i w cs) ∙ smallest_reduce (blockers x i w cs)
-
-pub same_option : (o : Option ℕ) → option_map (λ n. n) o ≡ o
-same_option None = refl
-same_option (Some n) = refl
+pub smallest_filtered : (x i : ℕ) (w : Bool) (cs : List Cohort) → fold lesser None (map tx_of (filter (blocking x i w) cs)) ≡ smallest None (blockers x i w cs)
+smallest_filtered x i w cs = ap (fold lesser None) (blockers_filtered x i w cs) ∙ smallest_fold None (blockers x i w cs)

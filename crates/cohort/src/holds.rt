@@ -1,5 +1,5 @@
 ghost use Rattle.std.specs.Prelude.{◌≡◌, None};
-ghost use Rattle.cohort.specs.Holds.{is_active, writes_in, blocking, blockers, smallest};
+ghost use Rattle.cohort.specs.Holds.{is_active, writes_in, blocking, blockers, smallest, lesser};
 
 use crate::kinds::{Access, Cohort, Mode, State};
 
@@ -23,6 +23,17 @@ impl Cohort {
     }
 }
 
+// The lesser of the smallest so far, if there is one, and a transaction. A function with a clause of its own and no `min` of the chain,
+// since what is the lesser is then said where it is chosen, and not in a proof of the whole chain.
+fn lesser_of(best: Option<u64>, tx: u64) -> Option<u64>
+    ensures { result ≡ lesser best tx }
+{
+    match best {
+        Some(other) => Some(other.min(tx)),
+        None => Some(tx),
+    }
+}
+
 // The smallest transaction in the way of the access.
 pub fn clash(cohorts: &[Cohort], access: Access) -> Option<u64>
     ensures { result ≡ smallest None (blockers access.tx access.item (writes_in access.mode) cohorts.now) }
@@ -31,5 +42,5 @@ pub fn clash(cohorts: &[Cohort], access: Access) -> Option<u64>
         .iter()
         .filter(|cohort| cohort.blocks(access))
         .map(|cohort| cohort.tx)
-        .min()
+        .fold(None, lesser_of)
 }

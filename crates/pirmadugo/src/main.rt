@@ -12,5 +12,5 @@ fn main(rt: HostRuntime) -> io::Result<()> {
     let mut input = rt.stdin().take(LONGEST_SCRIPT + 1);
     input.read_to_end(&mut script)?;
     let printed = run(heap, &script)?;
-    rt.stdout().write_all(printed.as_bytes())
+    rt.stdout().write_all(printed.as_slice())
 }

@@ -1,8 +1,13 @@
--- Whether the post has room.
+-- What waits in the post, and whether there is room.
 use Rattle.std.specs.Prelude.{ℕ, ◌+◌, ◌-◌, Bool, cond, List, length, Ok, Err, Result, nat_le}
 use Rattle.protocol.specs.declared.messages.Message.{Message}
 use Rattle.protocol.specs.Limits.{post_limit}
+use Rattle.table.specs.Contents.{listed}
 use Rattle.post.specs.declared.parts.NoRoom.{NoRoom}
+use Rattle.post.specs.declared.parts.Post.{Post}
+
+abbrev pub waiting : Post → List Message
+waiting p = listed p.messages
 
 abbrev pub fits_in : List Message → ℕ → Bool
 fits_in ms n = nat_le (length ms + n) post_limit

@@ -5,7 +5,7 @@ ghost use Rattle.protocol.specs.Limits.{post_limit};
 ghost use Rattle.protocol.specs.declared.messages.Body.TheVariants.{ToCoordinator};
 ghost use Rattle.table.specs.Contents.{nth_in, pushed};
 ghost use Rattle.model.specs.Lines.{letter, orders_to};
-ghost use Rattle.post.specs.View.{fits_in, missing_for, room_for, sent_if};
+ghost use Rattle.post.specs.View.{waiting, fits_in, missing_for, room_for, sent_if};
 
 use crate::parts::{NoRoom, Post};
 use protocol::{Body, Message, Order, POST_LIMIT, PerSite, Report, Site, count_marked};
@@ -13,7 +13,7 @@ use table::Table;
 
 impl Post {
     pub fn new() -> Self
-        ensures { result ≡ [] }
+        ensures { waiting result ≡ [] }
     {
         Post {
             messages: Table::new(),
@@ -21,29 +21,29 @@ impl Post {
     }
 
     pub fn len(&self) -> usize
-        ensures value { result ≡ length self.now }
+        ensures value { result ≡ length (waiting self.now) }
         ensures fits { result ≤ post_limit }
     {
         self.messages.len()
     }
 
     pub fn nth(&self, place: usize) -> Option<Message>
-        ensures { result ≡ nth_in self.now place }
+        ensures { result ≡ nth_in (waiting self.now) place }
     {
         self.messages.nth(place)
     }
 
     // Takes the message at the place out, if there is one; later ones move down by one.
     pub fn remove(&mut self, place: usize)
-        ensures { self.new ≡ remove self.old place }
+        ensures { waiting self.new ≡ remove (waiting self.old) place }
     {
         self.messages.remove(place);
     }
 
     // Whether there is room for so many more; else how many places are missing.
     pub fn room(&self, count: usize) -> Result<(), NoRoom>
-        ensures value { result ≡ room_for self.now count }
-        ensures bound { length self.now ≤ post_limit }
+        ensures value { result ≡ room_for (waiting self.now) count }
+        ensures bound { length (waiting self.now) ≤ post_limit }
     {
         let free = POST_LIMIT - self.messages.len();
         if count <= free {
@@ -57,7 +57,7 @@ impl Post {
 
     // A report of the cell to the coordinator, if there is room.
     pub fn send_report(&mut self, tx: u64, site: Site, report: Report)
-        ensures { self.new ≡ pushed post_limit self.old (letter tx site (ToCoordinator report)) }
+        ensures { waiting self.new ≡ pushed post_limit (waiting self.old) (letter tx site (ToCoordinator report)) }
     {
         let _sent = self.messages.push(Message {
             tx,
@@ -67,8 +67,8 @@ impl Post {
     }
 
     fn send_each(&mut self, marks: PerSite<bool>, tx: u64, order: Order)
-        requires { length self.old + how_many marks ≤ 64 }
-        ensures { self.new ≡ self.old ++ orders_to marks tx order }
+        requires { length (waiting self.old) + how_many marks ≤ 64 }
+        ensures { waiting self.new ≡ waiting self.old ++ orders_to marks tx order }
     {
         for site in Site::ALL {
             if marks.get(site) {
@@ -88,8 +88,8 @@ impl Post {
         tx: u64,
         order: Order,
     ) -> Result<usize, NoRoom>
-        ensures value { result ≡ sent_if (fits_in self.old (how_many marks)) (how_many marks) (missing_for self.old (how_many marks)) }
-        ensures after { self.new ≡ (if fits_in self.old (how_many marks) then self.old ++ orders_to marks tx order else self.old) }
+        ensures value { result ≡ sent_if (fits_in (waiting self.old) (how_many marks)) (how_many marks) (missing_for (waiting self.old) (how_many marks)) }
+        ensures after { waiting self.new ≡ (if fits_in (waiting self.old) (how_many marks) then waiting self.old ++ orders_to marks tx order else waiting self.old) }
     {
         let count = count_marked(&marks);
         self.room(count)?;

@@ -1,20 +1,9 @@
 use protocol::{Fault, Message, POST_LIMIT};
-use std::marker::Model;
 use table::Table;
 
 #[derive(Drop)]
 pub struct Post {
-    pub(crate) messages: Table<Message, POST_LIMIT>,
-}
-
-// Contracts see a post as the list of its messages.
-impl Model for Post {
-    ghost use Rattle.std.specs.Prelude.{List};
-    ghost use Rattle.protocol.specs.declared.messages.Message.{Message};
-
-    ghost Value = { List Message };
-
-    ghost view = { λ p. p.messages };
+    pub messages: Table<Message, POST_LIMIT>,
 }
 
 // So many places are missing for what was to be sent.

@@ -1,2 +1,3 @@
 mod Fresh
+mod Made
 pub mod Lines

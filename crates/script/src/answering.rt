@@ -4,7 +4,7 @@ ghost use Rattle.line.specs.View.{line_view};
 ghost use Rattle.script.specs.Answers.{Answered};
 
 use answer_text::{LINE_ROOM, PayloadPrint, ScriptFault, answer_line, script_fault_line};
-use arrayvec::ArrayString;
+use arrayvec::ArrayVec;
 use cells::FourCells;
 use command::{PayloadText, parse_call};
 use line::Line;
@@ -14,8 +14,8 @@ pub fn answer<P: Copy + PayloadText + PayloadPrint, C: FourCells<Payload = P>>(
     line: &mut Line<C>,
     number: u64,
     text: &[u8],
-) -> ArrayString<LINE_ROOM>
-    ensures { Answered P.PayloadText.lawful P.PayloadText.written P.PayloadPrint.shown (line_view C.view line.old) (line_view C.view line.new) number text.now result.bytes }
+) -> ArrayVec<u8, LINE_ROOM>
+    ensures { Answered P.PayloadText.lawful P.PayloadText.written P.PayloadPrint.shown (line_view C.view line.old) (line_view C.view line.new) number text.now result.items }
 {
     match parse_call::<P>(text) {
         Some(call) => answer_line(&line.call(call)),

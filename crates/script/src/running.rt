@@ -22,31 +22,31 @@ pub fn first_line(script: &[u8]) -> Option<(&[u8], &[u8])>
 }
 
 // What is printed for the lines of a script, one after another.
-fn run_lines(heap: Global, script: &[u8]) -> Result<String, AllocError>
+fn run_lines(heap: Global, script: &[u8]) -> Result<Vec<u8>, AllocError>
     requires { length script.now ≤ 65536 }
-    ensures { IfOk result (λ printed. PrintedFor script.now printed.bytes.items) }
+    ensures { IfOk result (λ printed. PrintedFor script.now printed.items) }
 {
     let mut session = Session::new();
-    let mut printed = String::new(heap);
+    let mut printed = Vec::new(heap);
     let mut number = 0u64;
     let mut rest = script;
     // The number and the rest by hand: a proof speaks of the rest, which an iterator of lines would keep to itself.
     while let Some((text, after)) = first_line(rest) {
         number += 1;
         let reply = session.answer_line(heap, number, text)?;
-        printed.push_str(&reply)?;
+        printed.extend_from_slice(&reply)?;
         rest = after;
     }
     Ok(printed)
 }
 
 // What is printed for a script.
-pub fn run(heap: Global, script: &[u8]) -> Result<String, AllocError>
-    ensures long { 65536 < length script.now → IfOk result (λ printed. printed.bytes.items ≡ script_text TooLong ++ (10 ∷ [])) }
-    ensures lines { length script.now ≤ 65536 → IfOk result (λ printed. PrintedFor script.now printed.bytes.items) }
+pub fn run(heap: Global, script: &[u8]) -> Result<Vec<u8>, AllocError>
+    ensures long { 65536 < length script.now → IfOk result (λ printed. printed.items ≡ script_text TooLong ++ (10 ∷ [])) }
+    ensures lines { length script.now ≤ 65536 → IfOk result (λ printed. PrintedFor script.now printed.items) }
 {
     if script.len() as u64 > LONGEST_SCRIPT {
-        too_long().to_string(heap)
+        too_long().to_vec(heap)
     } else {
         run_lines(heap, script)
     }

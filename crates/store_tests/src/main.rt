@@ -178,8 +178,9 @@ fn both_makes(
     rt: &HostRuntime,
     rows: usize,
 ) -> anyhow::Result<(Journal<u64, ITEMS>, Chain<u64, ITEMS>)> {
-    let journal = Journal::new(rt.alloc(), rows).context("no journal")?;
-    let chain = Chain::new(rt.alloc(), rows).context("no chain")?;
+    // Without the cause: what the program says of a store that cannot be made is these words alone.
+    let journal = Journal::new(rt.alloc(), rows).ok().context("no journal")?;
+    let chain = Chain::new(rt.alloc(), rows).ok().context("no chain")?;
     Ok((journal, chain))
 }
 

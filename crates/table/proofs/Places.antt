@@ -1,9 +1,9 @@
 -- What stands at the place of the first record that has a number.
-use Rattle.std.proofs.Common.{◌≡◌, ℕ, suc, ◌+◌, Bool, true, false, cond, not, eqb, List, [], ◌∷◌, length, get_or, set, Some, None, refl, ap, ◌∙◌, arith, rules, position}
+use Rattle.std.proofs.Common.{◌≡◌, ℕ, suc, ◌+◌, Bool, true, false, cond, not, eqb, List, [], ◌∷◌, length, get_or, set, Some, None, refl, ap, ◌∙◌, arith, rules, position, take, zero}
 use Rattle.std.specs.List.{remove, position_or_len}
 use Rattle.std.proofs.lemmas.List.Folds.{find_at}
 use Rattle.std.proofs.lemmas.Option.{slice_get_past, slice_get_read}
-use Rattle.table.specs.Contents.{has, find_in, without, stepped}
+use Rattle.table.specs.Contents.{has, find_in, nth_in, without, stepped}
 
 next : (n : ℕ) → 1 + n ≡ suc n
 next n = omega arith
@@ -42,6 +42,9 @@ pub found_at : {X : Type 0} (num : X → ℕ) (xs : List X) (n i : ℕ) (d : X) 
     position (has num n) xs ≡ Some i → d ≡ get_or xs i d → find_in num xs n ≡ Some d
 found_at num xs n i d h q = grind (arith, h, find_at (has num n) xs, slice_get_read xs (length xs) i d refl, q)
 
+pub found_nth : {X : Type 0} (num : X → ℕ) (xs : List X) (n i : ℕ) → position (has num n) xs ≡ Some i → nth_in xs i ≡ find_in num xs n
+found_nth num xs n i h = grind (arith, h, find_at (has num n) xs)
+
 -- where none has it
 pub found_none : {X : Type 0} (num : X → ℕ) (xs : List X) (n : ℕ) → position (has num n) xs ≡ None → find_in num xs n ≡ None
 found_none num xs n h = grind (arith, h, find_at (has num n) xs, slice_get_past xs (position_or_len (has num n) xs))
@@ -59,3 +62,10 @@ without_none num xs n h = unfound num xs n (found_none num xs n h)
 
 pub stepped_none : {X V : Type 0} (num : X → ℕ) (step : X → V → X) (xs : List X) (n : ℕ) (e : V) → position (has num n) xs ≡ None → xs ≡ stepped num step xs n e
 stepped_none num step xs n e h = unmoved num step xs n e (found_none num xs n h)
+
+pub take_set : {X : Type 0} (n : ℕ) (xs : List X) (i : ℕ) (x : X) → take n (set xs i x) ≡ set (take n xs) i x
+take_set zero [] i x = refl
+take_set zero (y ∷ ys) i x = refl
+take_set (suc n) [] i x = refl
+take_set (suc n) (y ∷ ys) zero x = refl
+take_set (suc n) (y ∷ ys) (suc i) x = ap (λ zs. y ∷ zs) (take_set n ys i x)

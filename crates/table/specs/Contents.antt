@@ -1,6 +1,10 @@
--- What calls do to the records of a table: the first record that has a number counts.
-use Rattle.std.specs.Prelude.{ℕ, Bool, cond, List, [], ◌∷◌, ◌++◌, length, Some, None, Option, ◌==◌, nat_lt, slice_get}
+-- What a table holds, and what its calls do to it: the first record that has a number counts.
+use Rattle.std.specs.Prelude.{ℕ, Bool, cond, List, [], ◌∷◌, ◌++◌, length, take, Some, None, Option, ◌==◌, nat_lt, slice_get}
 use Rattle.std.specs.List.{find}
+use Rattle.table.specs.declared.Table.{Table}
+
+abbrev pub listed : {X : Type 0} {n : ℕ} → Table X n → List X
+listed t = take t.len t.items
 
 -- one more at the end, where there is room for it
 abbrev pub pushed : {X : Type 0} → ℕ → List X → X → List X

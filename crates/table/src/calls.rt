@@ -1,54 +1,69 @@
 ghost use Rattle.std.specs.Prelude.{◌≡◌, ◌≤◌, ℕ, [], length, if◌then◌else◌, nat_lt, Ok, Err};
 ghost use Rattle.std.specs.List.{remove};
-ghost use Rattle.table.specs.Contents.{find_in, has, pushed, without, nth_in, reply_in, stepped};
+ghost use Rattle.table.specs.Contents.{listed, find_in, has, pushed, without, nth_in, reply_in, stepped};
 
 use crate::Table;
-use arrayvec::{ArrayVec, CapacityError};
 
-// Only what empties a place asks for a default, which the place has from then on.
 impl<T: Copy + Default, const N: usize> Table<T, N> {
+    // An empty table of records that have a default.
     pub fn new() -> Self
-        ensures { result ≡ [] }
+        ensures { listed result ≡ [] }
     {
-        Table {
-            records: ArrayVec::new(),
-        }
-    }
-
-    // Takes the record at the place out, if there is one; later ones move down by one.
-    pub fn remove(&mut self, place: usize)
-        ensures { self.new ≡ remove self.old place }
-    {
-        self.records.pop_at(place);
+        Table::filled(T::default())
     }
 }
 
 impl<T: Copy, const N: usize> Table<T, N> {
+    // An empty table; `fill` takes the places that stand for nothing.
+    pub fn filled(fill: T) -> Self
+        ensures { listed result ≡ [] }
+    {
+        Table {
+            items: [fill; N],
+            len: 0,
+        }
+    }
+
     pub fn len(&self) -> usize
-        ensures value { result ≡ length self.now }
+        ensures value { result ≡ length (listed self.now) }
         ensures fits { result ≤ N }
     {
-        self.records.len()
+        self.len
     }
 
     pub fn as_slice(&self) -> &[T]
-        ensures { result.now ≡ self.now }
+        ensures { result.now ≡ listed self.now }
     {
-        self.records.as_slice()
+        &self.items[..self.len]
     }
 
     pub fn nth(&self, place: usize) -> Option<T>
-        ensures { result ≡ nth_in self.now place }
+        ensures { result ≡ nth_in (listed self.now) place }
     {
-        self.records.get(place).copied()
+        self.as_slice().get(place).copied()
     }
 
     // Adds a record at the end, or hands it back where there is no room.
     pub fn push(&mut self, item: T) -> Result<(), T>
-        ensures value { result ≡ (if nat_lt (length self.old) N then Ok tt else Err item) }
-        ensures after { self.new ≡ pushed N self.old item }
+        ensures value { result ≡ (if nat_lt (length (listed self.old)) N then Ok tt else Err item) }
+        ensures after { listed self.new ≡ pushed N (listed self.old) item }
     {
-        self.records.try_push(item).map_err(CapacityError::element)
+        if self.len >= N {
+            return Err(item);
+        }
+        self.items[self.len] = item;
+        self.len += 1;
+        Ok(())
+    }
+
+    // Takes the record at the place out, if there is one; later ones move down by one.
+    pub fn remove(&mut self, place: usize)
+        ensures { listed self.new ≡ remove (listed self.old) place }
+    {
+        if place < self.len {
+            self.items.copy_within(place + 1..self.len, place);
+            self.len -= 1;
+        }
     }
 }
 
@@ -65,31 +80,28 @@ impl<T: Numbered + Copy, const N: usize> Table<T, N> {
 
     // The place of the first record with the number.
     fn place(&self, number: u64) -> Option<usize>
-        ensures { result ≡ position (has T.Numbered.number number) self.now }
+        ensures { result ≡ position (has T.Numbered.number number) (listed self.now) }
     {
-        self.records
+        self.as_slice()
             .iter()
             .position(|record| record.number() == number)
     }
 
+    #[tactic(auto, using(crate::proofs::Places::found_nth, crate::proofs::Places::found_none))]
     pub fn find(&self, number: u64) -> Option<T>
-        ensures { result ≡ find_in T.Numbered.number self.now number }
+        ensures { result ≡ find_in T.Numbered.number (listed self.now) number }
     {
-        self.records
-            .iter()
-            .copied()
-            .find(|record| record.number() == number)
+        let place = self.place(number)?;
+        self.nth(place)
     }
-}
 
-impl<T: Numbered + Copy + Default, const N: usize> Table<T, N> {
     // Takes the first record with the number out.
     #[tactic(auto, using(crate::proofs::Places::without_at, crate::proofs::Places::without_none))]
     pub fn forget(&mut self, number: u64)
-        ensures { self.new ≡ without T.Numbered.number self.old number }
+        ensures { listed self.new ≡ without T.Numbered.number (listed self.old) number }
     {
         if let Some(place) = self.place(number) {
-            self.records.remove(place);
+            self.remove(place);
         }
     }
 }
@@ -113,11 +125,10 @@ impl<T: Machine + Copy, const N: usize> Table<T, N> {
     // Gives the event to the first record with the number, which changes where it stands.
     #[tactic(auto, using(crate::proofs::Places::found_at, crate::proofs::Places::found_none, crate::proofs::Places::stepped_at, crate::proofs::Places::stepped_none))]
     pub fn step(&mut self, number: u64, event: T::Event) -> Option<T::Reply>
-        ensures value { result ≡ reply_in T.Machine.reply (find_in T.Numbered.number self.old number) event }
-        ensures after { self.new ≡ stepped T.Numbered.number T.Machine.next self.old number event }
+        ensures value { result ≡ reply_in T.Machine.reply (find_in T.Numbered.number (listed self.old) number) event }
+        ensures after { listed self.new ≡ stepped T.Numbered.number T.Machine.next (listed self.old) number event }
     {
         let place = self.place(number)?;
-        let record = self.records.get_mut(place)?;
-        Some(record.step(event))
+        Some(self.items[place].step(event))
     }
 }

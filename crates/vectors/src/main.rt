@@ -12,7 +12,7 @@ fn is_as_expected(rt: &HostRuntime, name: &str) -> io::Result<bool> {
     let expected_path = format!(in heap; "{name}.expected")?;
     let expected = fs::read(rt, expected_path.as_str())?;
     let printed = run(heap, &script)?;
-    Ok(printed.as_bytes() == expected.as_slice())
+    Ok(printed.as_slice() == expected.as_slice())
 }
 
 fn main(rt: HostRuntime) -> io::Result<()> {

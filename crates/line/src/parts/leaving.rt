@@ -25,10 +25,7 @@ impl<C: FourCells> Line<C> {
         ensures after { line_view C.view self.new ≡ did (line_view C.view self.old) (GiveUp tx) }
     {
         let transaction = self.admit(tx, Allowed::Undecided)?;
-        let orders = count_marked(&transaction.joined);
-        // Asked first, so that a proof sees the post's bound where nothing is sent.
-        self.post.room(orders)?;
-        if orders == 0 {
+        if count_marked(&transaction.joined) == 0 {
             self.shut(tx);
             return Ok(());
         }

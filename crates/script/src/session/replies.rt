@@ -7,7 +7,7 @@ use crate::answering::answer;
 use crate::making::new_line;
 use crate::session::Session;
 use answer_text::{LINE_ROOM, ScriptFault, answer_line, script_fault_line};
-use arrayvec::ArrayString;
+use arrayvec::ArrayVec;
 use command::{Kind, parse_kind};
 use protocol::Answer;
 use std::alloc::{AllocError, Global};
@@ -36,9 +36,9 @@ impl Session {
         heap: Global,
         number: u64,
         text: &[u8],
-    ) -> Result<ArrayString<LINE_ROOM>, AllocError>
+    ) -> Result<ArrayVec<u8, LINE_ROOM>, AllocError>
         requires { session_view self.old ≡ Unset }
-        ensures { MatchResult result (λ printed. Chooses number text.now printed.bytes (session_view self.new)) (λ _. session_view self.new ≡ Unset) }
+        ensures { MatchResult result (λ printed. Chooses number text.now printed.items (session_view self.new)) (λ _. session_view self.new ≡ Unset) }
     {
         let Some(kind) = parse_kind(text) else {
             return Ok(script_fault_line(ScriptFault::Malformed(number)));
@@ -55,8 +55,8 @@ impl Session {
         heap: Global,
         number: u64,
         text: &[u8],
-    ) -> Result<ArrayString<LINE_ROOM>, AllocError>
-        ensures { MatchResult result (λ printed. Replies (session_view self.old) number text.now printed.bytes (session_view self.new)) (λ _. session_view self.new ≡ session_view self.old) }
+    ) -> Result<ArrayVec<u8, LINE_ROOM>, AllocError>
+        ensures { MatchResult result (λ printed. Replies (session_view self.old) number text.now printed.items (session_view self.new)) (λ _. session_view self.new ≡ session_view self.old) }
     {
         match self {
             Session::NoKind => self.choose(heap, number, text),
@@ -67,8 +67,8 @@ impl Session {
 }
 
 // What is printed for a script that is too long; nothing of it is run.
-pub fn too_long() -> ArrayString<LINE_ROOM>
-    ensures { result.bytes ≡ script_text TooLong ++ (10 ∷ []) }
+pub fn too_long() -> ArrayVec<u8, LINE_ROOM>
+    ensures { result.items ≡ script_text TooLong ++ (10 ∷ []) }
 {
     script_fault_line(ScriptFault::TooLong)
 }
