@@ -13,13 +13,14 @@ pub(crate) fn joined<const N: usize>(pieces: &[&[u8]]) -> ArrayVec<u8, N>
 {
     let mut text = ArrayVec::new();
     for piece in pieces {
+        // It fits, as `room` says.
         let _fits = text.try_extend_from_slice(piece);
     }
     text
 }
 
-// The pieces one after another, and a newline: they go straight into the line, since a text that is copied while it is still being
-// written is waited for.
+// The pieces one after another, and a newline, with no text between them and the line: a text that is copied right after its bytes were
+// written waits for them.
 pub(crate) fn line_of(pieces: &[&[u8]]) -> ArrayVec<u8, LINE_ROOM>
     requires { length (flat_map (λ p. p.now) pieces.now) < LINE_ROOM }
     ensures { result.items ≡ flat_map (λ p. p.now) pieces.now ++ (10 ∷ []) }

@@ -2,7 +2,7 @@ ghost use Rattle.std.specs.Prelude.{◌≡◌, ◌+◌, ◌≤◌, [], ◌++◌,
 ghost use Rattle.std.specs.List.{remove};
 ghost use Rattle.protocol.specs.Sites.{how_many};
 ghost use Rattle.protocol.specs.Limits.{post_limit};
-ghost use Rattle.protocol.specs.declared.messages.Body.TheVariants.{ToCoordinator};
+ghost use Rattle.protocol.specs.declared.messages.Body.TheVariants.{ToCell, ToCoordinator};
 ghost use Rattle.table.specs.Contents.{nth_in, pushed};
 ghost use Rattle.model.specs.Lines.{letter, orders_to};
 ghost use Rattle.post.specs.View.{waiting, fits_in, missing_for, room_for, sent_if};
@@ -10,6 +10,14 @@ ghost use Rattle.post.specs.View.{waiting, fits_in, missing_for, room_for, sent_
 use crate::parts::{NoRoom, Post};
 use protocol::{Body, Message, Order, POST_LIMIT, PerSite, Report, Site, count_marked};
 use table::Table;
+
+// The order as a message to the cell. A function of its own, so that what is sent to whom has a clause, and not only a place in a loop's proof.
+fn order_to(site: Site, tx: u64, order: Order) -> Message
+    ensures { result ≡ letter tx site (ToCell order) }
+{
+    let body = Body::ToCell(order);
+    Message { tx, site, body }
+}
 
 impl Post {
     pub fn new() -> Self
@@ -72,11 +80,7 @@ impl Post {
     {
         for site in Site::ALL {
             if marks.get(site) {
-                let _sent = self.messages.push(Message {
-                    tx,
-                    site,
-                    body: Body::ToCell(order),
-                });
+                let _sent = self.messages.push(order_to(site, tx, order));
             }
         }
     }
