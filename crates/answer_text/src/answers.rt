@@ -3,9 +3,9 @@ ghost use Rattle.std.specs.Prelude.{◌≡◌, [], ◌∷◌, ◌++◌};
 ghost use Rattle.answer_text.specs.Texts.{decision_text, stage_text, delivery_text, read_text, accepted_text, text_of};
 
 use crate::faults::fault_line;
-use crate::payloads::{PAYLOAD_ROOM, PayloadPrint};
-use crate::pieces::{joined, line_of};
-use arrayvec::ArrayVec;
+use crate::payloads::{PAYLOAD_ROOM, PayloadBytes, PayloadPrint};
+use crate::pieces::{as_text, joined, line_of};
+use arrayvec::{ArrayString, ArrayVec};
 use itoa::Buffer;
 use protocol::{Answer, Decision, Delivery, Fault, Range, Stage};
 
@@ -52,16 +52,16 @@ fn delivery_text(delivery: Delivery) -> ArrayVec<u8, 47>
 }
 
 // What a read gave.
-fn read_text<P: PayloadPrint>(read: &Option<P>) -> ArrayVec<u8, PAYLOAD_ROOM>
+fn read_text<P: PayloadBytes>(read: &Option<P>) -> ArrayVec<u8, PAYLOAD_ROOM>
     ensures { result.items ≡ read_text P.shown read.now }
 {
     match read {
-        Some(payload) => payload.text(),
+        Some(payload) => payload.bytes(),
         None => joined(&[b"absent"]),
     }
 }
 
-fn accepted_line<P: PayloadPrint>(answer: &Answer<P>) -> ArrayVec<u8, LINE_ROOM>
+fn accepted_line<P: PayloadBytes>(answer: &Answer<P>) -> ArrayVec<u8, LINE_ROOM>
     ensures { result.items ≡ accepted_text P.shown answer.now ++ (10 ∷ []) }
 {
     match answer {
@@ -73,12 +73,43 @@ fn accepted_line<P: PayloadPrint>(answer: &Answer<P>) -> ArrayVec<u8, LINE_ROOM>
     }
 }
 
-// The line of what a call answers: its text and a newline.
-pub fn answer_line<P: PayloadPrint>(answer: &Result<Answer<P>, Fault>) -> ArrayVec<u8, LINE_ROOM>
+// The line of what a call answers, in bytes: its text and a newline.
+pub fn answer_bytes<P: PayloadBytes>(answer: &Result<Answer<P>, Fault>) -> ArrayVec<u8, LINE_ROOM>
     ensures { result.items ≡ text_of P.shown answer.now ++ (10 ∷ []) }
 {
     match answer {
         Ok(answer) => accepted_line(answer),
         Err(fault) => fault_line(*fault),
+    }
+}
+
+fn accepted_text_line<P: PayloadPrint>(answer: &Answer<P>) -> ArrayString<LINE_ROOM>
+    ensures { result.bytes ≡ accepted_text P.shown answer.now ++ (10 ∷ []) }
+{
+    // Where no payload was read, the line is the same whatever the payloads are.
+    let of_counts = match answer {
+        Answer::Payload(Some(payload)) => {
+            let mut line = ArrayString::new();
+            line.push_str("ok ");
+            line.push_str(&payload.text());
+            line.push('\n');
+            return line;
+        }
+        Answer::Payload(None) => Answer::Payload(None),
+        Answer::Accepted => Answer::Accepted,
+        Answer::Number(number) => Answer::Number(*number),
+        Answer::Delivered(delivery) => Answer::Delivered(*delivery),
+        Answer::Stands(stage) => Answer::Stands(*stage),
+    };
+    as_text(&accepted_line::<u64>(&of_counts))
+}
+
+// The same line as a text, of payloads that have a text.
+pub fn answer_line<P: PayloadPrint>(answer: &Result<Answer<P>, Fault>) -> ArrayString<LINE_ROOM>
+    ensures { result.bytes ≡ text_of P.shown answer.now ++ (10 ∷ []) }
+{
+    match answer {
+        Ok(answer) => accepted_text_line(answer),
+        Err(fault) => as_text(&fault_line(*fault)),
     }
 }

@@ -3,8 +3,8 @@ ghost use Rattle.std.specs.Prelude.{◌≡◌, ◌≤◌, [], ◌∷◌, ◌++�
 ghost use Rattle.answer_text.specs.Texts.{layer_text, refusal_text, fault_text, script_text};
 
 use crate::answers::LINE_ROOM;
-use crate::pieces::line_of;
-use arrayvec::ArrayVec;
+use crate::pieces::{as_text, line_of};
+use arrayvec::{ArrayString, ArrayVec};
 use itoa::Buffer;
 use protocol::{Fault, Layer};
 
@@ -52,12 +52,19 @@ pub(crate) fn fault_line(fault: Fault) -> ArrayVec<u8, LINE_ROOM>
     refusal_line(layer_name(fault.layer()), fault.number(), fault.detail())
 }
 
-// The line of a refusal by the script layer: its text and a newline.
-pub fn script_fault_line(fault: ScriptFault) -> ArrayVec<u8, LINE_ROOM>
+// The line of a refusal by the script layer, in bytes: its text and a newline.
+pub fn script_fault_bytes(fault: ScriptFault) -> ArrayVec<u8, LINE_ROOM>
     ensures { result.items ≡ script_text fault ++ (10 ∷ []) }
 {
     match fault {
         ScriptFault::Malformed(line) => refusal_line("script", 14, line),
         ScriptFault::TooLong => refusal_line("script", 15, LONGEST_SCRIPT),
     }
+}
+
+// The same line as a text.
+pub fn script_fault_line(fault: ScriptFault) -> ArrayString<LINE_ROOM>
+    ensures { result.bytes ≡ script_text fault ++ (10 ∷ []) }
+{
+    as_text(&script_fault_bytes(fault))
 }

@@ -1,8 +1,9 @@
 // Texts in pieces.
-ghost use Rattle.std.specs.Prelude.{◌≡◌, ◌<◌, ◌≤◌, [], ◌∷◌, ◌++◌, length, flat_map};
+ghost use Rattle.std.specs.Prelude.{◌≡◌, ◌<◌, ◌≤◌, [], ◌∷◌, ◌++◌, length, flat_map, IsUtf8};
 
 use crate::answers::LINE_ROOM;
-use arrayvec::ArrayVec;
+use arrayvec::{ArrayString, ArrayVec};
+use std::str;
 
 // The pieces one after another.
 // No `write!` and `Display` here: a formatter may answer an error, and once the line has changed there would be nothing to print.
@@ -28,4 +29,14 @@ pub(crate) fn line_of(pieces: &[&[u8]]) -> ArrayVec<u8, LINE_ROOM>
     let mut line = joined(pieces);
     line.push(b'\n');
     line
+}
+
+// The bytes as a text, whose type says that they are UTF-8.
+pub(crate) fn as_text<const N: usize>(bytes: &ArrayVec<u8, N>) -> ArrayString<N>
+    requires { IsUtf8 bytes.now.items }
+    ensures { result.bytes ≡ bytes.now.items }
+{
+    let mut text = ArrayString::new();
+    text.push_str(str::from_utf8(bytes).unwrap());
+    text
 }

@@ -52,7 +52,8 @@ const ANSWERS: [(Result<Answer<u64>, Fault>, &str); 20] = [
 #[test]
 fn answers_have_their_lines(rt: HostRuntime) {
     for (answer, line) in ANSWERS {
-        assert_eq!(rt; answer_line(&answer).as_slice(), line.as_bytes());
+        assert_eq!(rt; answer_bytes(&answer).as_slice(), line.as_bytes());
+        assert_eq!(rt; answer_line(&answer).as_str(), line);
     }
 }
 
@@ -70,22 +71,33 @@ fn poses_are_printed_in_degrees(rt: HostRuntime) {
         joint2: 0x43b4_8000,
         joint3: 0x7f80_0000,
     };
-    let first = answer_line(&Ok(Answer::Payload(Some(pose))));
-    let second = answer_line(&Ok(Answer::Payload(Some(lost))));
-    assert_eq!(rt; first.as_slice(), b"ok 360 -360 0 ?\n".as_slice());
-    assert_eq!(rt; second.as_slice(), b"ok ? 1 ? ?\n".as_slice());
+    for (payload, text) in [(pose, "360 -360 0 ?"), (lost, "? 1 ? ?")] {
+        assert_eq!(rt; payload.bytes().as_slice(), text.as_bytes());
+        assert_eq!(rt; payload.text().as_str(), text);
+    }
+    let first = Ok(Answer::Payload(Some(pose)));
+    let second = Ok(Answer::Payload(Some(lost)));
+    assert_eq!(rt;
+        answer_bytes(&first).as_slice(),
+        b"ok 360 -360 0 ?\n".as_slice()
+    );
+    assert_eq!(rt;
+        answer_bytes(&second).as_slice(),
+        b"ok ? 1 ? ?\n".as_slice()
+    );
+    assert_eq!(rt; answer_line(&first).as_str(), "ok 360 -360 0 ?\n");
+    assert_eq!(rt; answer_line(&second).as_str(), "ok ? 1 ? ?\n");
 }
 
 #[test]
 fn script_faults_have_their_lines(rt: HostRuntime) {
-    assert_eq!(rt;
-        script_fault_line(ScriptFault::Malformed(12)).as_slice(),
-        b"no script 14 12\n".as_slice()
-    );
-    assert_eq!(rt;
-        script_fault_line(ScriptFault::TooLong).as_slice(),
-        b"no script 15 65536\n".as_slice()
-    );
+    for (fault, line) in [
+        (ScriptFault::Malformed(12), "no script 14 12\n"),
+        (ScriptFault::TooLong, "no script 15 65536\n"),
+    ] {
+        assert_eq!(rt; script_fault_bytes(fault).as_slice(), line.as_bytes());
+        assert_eq!(rt; script_fault_line(fault).as_str(), line);
+    }
 }
 
 // The lines of the largest numbers.
@@ -96,13 +108,11 @@ fn the_longest_lines_have_room(rt: HostRuntime) {
         latest: u64::MAX,
     };
     let answer: Result<Answer<u64>, Fault> = Ok(Answer::Delivered(Delivery::Ranged(range)));
-    assert_eq!(rt;
-        answer_line(&answer).as_slice(),
-        b"ok range 18446744073709551615 18446744073709551615\n".as_slice()
-    );
-    let refusal = script_fault_line(ScriptFault::Malformed(u64::MAX));
-    assert_eq!(rt;
-        refusal.as_slice(),
-        b"no script 14 18446744073709551615\n".as_slice()
-    );
+    let longest = "ok range 18446744073709551615 18446744073709551615\n";
+    assert_eq!(rt; answer_bytes(&answer).as_slice(), longest.as_bytes());
+    assert_eq!(rt; answer_line(&answer).as_str(), longest);
+    let fault = ScriptFault::Malformed(u64::MAX);
+    let refusal = "no script 14 18446744073709551615\n";
+    assert_eq!(rt; script_fault_bytes(fault).as_slice(), refusal.as_bytes());
+    assert_eq!(rt; script_fault_line(fault).as_str(), refusal);
 }

@@ -1,3 +1,4 @@
 mod Fresh
 mod Made
 pub mod Lines
+pub mod Utf8

@@ -7,5 +7,8 @@ mod running;
 mod session;
 
 pub use answer_text::LONGEST_SCRIPT;
-pub use running::{first_line, run};
-pub use session::{Session, too_long};
+pub use running::{first_line, run, run_bytes};
+pub use session::{Session, too_long, too_long_bytes};
+
+#[cfg(test)]
+mod tests;

@@ -4,7 +4,7 @@ ghost use Rattle.answer_text.specs.Texts.{script_text};
 ghost use Rattle.answer_text.specs.declared.faults.ScriptFault.TheVariants.{TooLong};
 ghost use Rattle.script.specs.Scripts.{Cut, PrintedFor};
 
-use crate::session::{Session, too_long};
+use crate::session::{Session, too_long_bytes};
 use answer_text::LONGEST_SCRIPT;
 use std::alloc::{AllocError, Global};
 
@@ -33,21 +33,30 @@ fn run_lines(heap: Global, script: &[u8]) -> Result<Vec<u8>, AllocError>
     // The number and the rest by hand: a proof speaks of the rest, which an iterator of lines would keep to itself.
     while let Some((text, after)) = first_line(rest) {
         number += 1;
-        let reply = session.answer_line(heap, number, text)?;
+        let reply = session.answer_bytes(heap, number, text)?;
         printed.extend_from_slice(&reply)?;
         rest = after;
     }
     Ok(printed)
 }
 
-// What is printed for a script.
-pub fn run(heap: Global, script: &[u8]) -> Result<Vec<u8>, AllocError>
+// What is printed for a script, in bytes.
+pub fn run_bytes(heap: Global, script: &[u8]) -> Result<Vec<u8>, AllocError>
     ensures long { 65536 < length script.now → IfOk result (λ printed. printed.items ≡ script_text TooLong ++ (10 ∷ [])) }
     ensures lines { length script.now ≤ 65536 → IfOk result (λ printed. PrintedFor script.now printed.items) }
 {
     if script.len() as u64 > LONGEST_SCRIPT {
-        too_long().to_vec(heap)
+        too_long_bytes().to_vec(heap)
     } else {
         run_lines(heap, script)
     }
+}
+
+// The same as a text.
+pub fn run(heap: Global, script: &[u8]) -> Result<String, AllocError>
+    ensures long { 65536 < length script.now → IfOk result (λ printed. printed.bytes.items ≡ script_text TooLong ++ (10 ∷ [])) }
+    ensures lines { length script.now ≤ 65536 → IfOk result (λ printed. PrintedFor script.now printed.bytes.items) }
+{
+    let bytes = run_bytes(heap, script)?;
+    Ok(String::from_utf8(bytes).unwrap())
 }

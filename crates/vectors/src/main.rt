@@ -1,7 +1,7 @@
 // Runs every script under data/ and compares what is printed with what is expected.
 #![tactic(auto)]
 
-use script::run;
+use script::run_bytes;
 use std::{fs, io};
 
 // Whether the script of the name prints what is expected.
@@ -11,7 +11,7 @@ fn is_as_expected(rt: &HostRuntime, name: &str) -> io::Result<bool> {
     let script = fs::read(rt, script_path.as_str())?;
     let expected_path = format!(in heap; "{name}.expected")?;
     let expected = fs::read(rt, expected_path.as_str())?;
-    let printed = run(heap, &script)?;
+    let printed = run_bytes(heap, &script)?;
     Ok(printed.as_slice() == expected.as_slice())
 }
 

@@ -12,7 +12,7 @@ loop-text-preserved c =
       omega (arith, k.0, shorter c.loop-text.rest.now c.in-Some.text.now c.in-Some.after.now c.in-Some.ensures),
       λ ls bytes a b. subst (λ z. PrintedFor c.args.script.now (z ++ bytes)) (sym e)
           (onward c.args.script.now printed c.loop-text.rest.now c.in-Some.text.now c.in-Some.after.now c.in_ok-reply.reply.items
-          (session_view c.loop-text.session) (session_view c.answer_line.new.self) c.loop-text.number c.in-Some.ensures c.in_ok-reply.ensures k.1 ls bytes a b),
+          (session_view c.loop-text.session) (session_view c.answer_bytes.new.self) c.loop-text.number c.in-Some.ensures c.in_ok-reply.ensures k.1 ls bytes a b),
     )
 
 pub returns : goal.returns
